@@ -106,13 +106,22 @@ def arm_of_texts(length: int, words: Dict[str, List[str]]) -> List[str]:
     by_text = defaultdict(list)
     for word, [text] in words.items():
         by_text[text].append(word)
-    cases = [(condition_of(some), f'Some(b"{text}")') for text, some in sorted(by_text.items())]
-    return returning_lines(length, cases, "None")
+    lines = [f"        {length} => {{"]
+    for text, some in sorted(by_text.items()):
+        lines += [*condition_lines(some), f'                return Some(b"{text}");', "            }"]
+    return [*lines, "            None", "        }"]
 
 
 def condition_of(words: List[str]) -> str:
     """The condition that a word is one of these."""
     return f'is_same(word, b"{words[0]}")' if len(words) == 1 else f'is_among(word, {edges_of(words)}, "{" ".join(words)}")'
+
+
+def condition_lines(words: List[str]) -> List[str]:
+    """The lines of an `if` with the condition that a word is one of these."""
+    if len(words) == 1:
+        return [f"            if {condition_of(words)} {{"]
+    return call_lines("            if ", "is_among", words, "", " {")
 
 
 def returning_lines(length: int, cases: List[Tuple[str, str]], otherwise: str) -> List[str]:

@@ -148,7 +148,7 @@ impl<'a> Pieces<'a> {
         if self.is_kind_of_acreage(next) {
             next = plus(next, 1);
         }
-        Some(next)
+        Some(self.after_other_acreage(next))
     }
 
     /// Whether a figure at an index is a total, which ends before another index with `net` or `gross`: it may have no

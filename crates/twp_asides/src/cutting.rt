@@ -150,7 +150,11 @@ fn size_at(text: &[u8], start: usize) -> usize {
 fn may_be_two(kind: Kind, text: &[u8], start: usize, size: usize) -> bool {
     match kind {
         Kind::BadNumber => size == 6,
-        Kind::Other => size <= 3 || text.get(start) == Some(&b'A'),
+        Kind::Other => {
+            size <= 3
+                || text.get(start) == Some(&b'A')
+                || (size == 4 && matches!(text.get(start), Some(b'W' | b'E' | b'w' | b'e')))
+        }
         _ => false,
     }
 }
@@ -193,12 +197,40 @@ fn push_token(
 /// damaged `1` after it, and the side of a range with letters for a meridian, as in `R3WBM`.
 fn size_of_first(token: Piece, bytes: &[u8], lower: &[u8], before: &[Piece]) -> Option<usize> {
     match token.kind {
-        Kind::BadNumber if bytes.len() == 6 => Some(2),
+        Kind::BadNumber if bytes.len() == 6 && is_before_north_south(lower, token.end) => Some(2),
+        Kind::Other if is_range_and_section(bytes) && is_after_number(before) => Some(1),
         Kind::Other if matches!(bytes, [b'A', _, ..]) && is_after_section(lower, before) => Some(1),
         Kind::Other if is_damaged_corner(bytes) => Some(2),
         Kind::Other if is_side_and_meridian(bytes) => Some(1),
         Kind::Other if is_damaged_half(bytes, lower.get(plus(token.start, 2)..)) => Some(1),
         _ => None,
+    }
+}
+
+/// Whether N or S is at a place of a text in lowercase, as after the township of a register.
+fn is_before_north_south(lower: &[u8], place: usize) -> bool {
+    matches!(lower.get(place), Some(b'n' | b's'))
+}
+
+/// Whether a word is the side of a range, and the letter or the word for a section after it, as in `T2NR3WSEC22`.
+fn is_range_and_section(bytes: &[u8]) -> bool {
+    matches!(
+        bytes,
+        [b'W' | b'E' | b'w' | b'e', b'S' | b's']
+            | [
+                b'W' | b'E' | b'w' | b'e',
+                b'S' | b's',
+                b'E' | b'e',
+                b'C' | b'c'
+            ]
+    )
+}
+
+/// Whether the last piece is a number.
+fn is_after_number(before: &[Piece]) -> bool {
+    match before {
+        [.., last] => matches!(last.kind, Kind::Number(_)),
+        [] => false,
     }
 }
 

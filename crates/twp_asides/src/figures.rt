@@ -61,9 +61,16 @@ impl<'a> Pieces<'a> {
         let is_dashed = self.is_dash(mark)
             && !self.is_joined(mark)
             && !self.is_joined(plus(mark, 1));
-        let is_line = self.has_before(mark, b'\n') && self.begins_line(index);
+        let is_line = self.begins_column(mark) && self.begins_line(index);
         if (is_dashed || is_line) && self.is_letter_or_digits(place) {
-            Some(mark)
+            return Some(mark);
+        }
+        let is_item = self.is(mark, b".")
+            && self.is_joined(mark)
+            && !self.is_joined(plus(mark, 1))
+            && self.begins_line(index);
+        if is_item && self.is_letter_or_digits(place) {
+            Some(plus(mark, 1))
         } else {
             None
         }

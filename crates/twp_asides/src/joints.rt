@@ -1,6 +1,7 @@
 //! What begins at a piece, and what joins two of them: land, words for a township that was named before, a
 //! hyphen at the end of a line.
 
+use crate::leads::is_sure_part;
 use crate::pieces::{Pieces, plus};
 use twp_grammar::Kind;
 
@@ -23,9 +24,23 @@ impl<'a> Pieces<'a> {
         }
     }
 
+    /// Whether `the`, or what scanning leaves of it, is at an index.
+    pub fn is_article(&self, index: usize) -> bool {
+        match self.kind(index) {
+            Kind::The => true,
+            Kind::Other => {
+                self.is(index, b"tbe")
+                    || self.is(index, b"tlie")
+                    || self.is(index, b"tne")
+                    || self.is(index, b"tho")
+            }
+            _ => false,
+        }
+    }
+
     /// Whether an aliquot part begins at an index, also after `the`.
     pub fn begins_part(&self, index: usize) -> bool {
-        let first = if self.is(index, b"the") {
+        let first = if self.is_article(index) {
             plus(index, 1)
         } else {
             index
@@ -56,7 +71,8 @@ impl<'a> Pieces<'a> {
             && (!self.is_joined(next) || self.bytes(next).len() >= 4);
         (self.is(index, b"(") || self.is(index, b"[") || self.is(index, b"\xC2\xA7"))
             || self.is(index, b"#")
-            || (self.is(index, b"$") && self.begins_column(index))
+            || self.is(index, b"$")
+            || (self.is(index, b"@") && self.is(next, b"$"))
             || (is_number && self.is_dash(index))
             || self.is_question_mark(index)
     }
@@ -72,6 +88,15 @@ impl<'a> Pieces<'a> {
         } else {
             index
         }
+    }
+
+    /// The index after `all of` at an index, before an aliquot part.
+    pub fn after_all_of(&self, index: usize) -> usize {
+        let part = plus(index, 2);
+        let is_all = matches!(self.kind(index), Kind::All)
+            && self.is(plus(index, 1), b"of")
+            && self.begins_part(part);
+        if is_all { part } else { index }
     }
 
     /// The index after `the fractional` at an index, before a corner or a side.
@@ -158,6 +183,19 @@ impl<'a> Pieces<'a> {
             && !self.is_joined(index)
             && !self.is_joined(land)
             && (self.begins_land(land) || is_lot)
+    }
+
+    /// Whether a hyphen without white space is at an index, after a number, and `all` or a part with its fraction after it,
+    /// as in `8-ALL`, or `17-N2`.
+    pub fn is_before_hyphen_and_land(&self, index: usize) -> bool {
+        let land = plus(index, 1);
+        let is_land = matches!(self.kind(land), Kind::All) || is_sure_part(self, land);
+        self.is(index, b"-") && self.is_joined(index) && self.is_joined(land) && is_land
+    }
+
+    /// Whether a dash is at an index, and a township after it, as in `9-2N-3W`.
+    pub fn is_before_dash_and_tier(&self, index: usize) -> bool {
+        self.is_dash(index) && self.begins_tier(plus(index, 1))
     }
 
     /// Whether a hyphen that divides a part is at an index, at the end of its line.

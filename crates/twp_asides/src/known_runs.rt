@@ -71,9 +71,11 @@ impl<'a> Pieces<'a> {
         false
     }
 
-    /// Whether some pieces are a date with slashes, as `5/11/32`.
+    /// Whether some pieces are a date with slashes, as `5/11/32`, or `3/1/2005`, of which a fraction takes a digit.
     pub fn is_slashed_date(&self, first: usize, end: usize) -> bool {
-        end == plus(first, 5) && self.is(plus(first, 1), b"/") && self.is(plus(first, 3), b"/")
+        let is_slashed = self.is(plus(first, 1), b"/");
+        let is_cut = end == plus(first, 4) && self.is_date(first);
+        is_slashed && (is_cut || (end == plus(first, 5) && self.is(plus(first, 3), b"/")))
     }
 
     /// Whether a word at an index is known to say nothing of which land is meant.

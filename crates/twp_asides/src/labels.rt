@@ -99,8 +99,8 @@ impl<'a> Pieces<'a> {
         if self.is_label_after_section(index) {
             return Some(plus(index, 2));
         }
-        if self.is_label_of_township(index) {
-            return Some(plus(index, 3));
+        if let Some(end) = self.end_of_label_of_township(index) {
+            return Some(end);
         }
         if let Some(value) = self.after_quoted_name(plus(index, 1)) {
             let is_label = is_column(self.lower(index)) && !is_acres(self.lower(index));
@@ -164,16 +164,6 @@ impl<'a> Pieces<'a> {
         self.is(index, b"aliquot")
             && (self.is(part, b"part") || self.is(part, b"parts"))
             && (self.is(plus(part, 1), b":") || self.is(plus(part, 1), b"\""))
-    }
-
-    /// Whether `Twp-Rng` is at an index, before a township without a word for it.
-    fn is_label_of_township(&self, index: usize) -> bool {
-        let number = plus(index, 3);
-        self.is(index, b"twp")
-            && self.is(plus(index, 1), b"-")
-            && self.is(plus(index, 2), b"rng")
-            && self.number(number).is_some()
-            && self.is_north_south(plus(number, 1))
     }
 
     /// Whether `A:` for aliquot parts is at an index, after the section of a register.

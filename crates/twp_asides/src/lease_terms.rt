@@ -1,6 +1,7 @@
 //! Terms of leases after land, and shares and money after it: `5 yr paid-up`, `NMA 60.0`, `0.125`, `$1.50`.
 
 use crate::pieces::{Pieces, plus};
+use twp_grammar::Kind;
 
 impl<'a> Pieces<'a> {
     /// Where the years of a lease end that are at an index, after a mark or with its column: at a mark, or with its
@@ -27,11 +28,44 @@ impl<'a> Pieces<'a> {
 
     /// Where a sum of money ends that fills a column from an index on, as `$1.50`.
     pub fn end_of_money(&self, index: usize) -> Option<usize> {
-        if !self.is(index, b"$") || !self.begins_column(index) {
+        if self.is(index, b"@") && self.is(plus(index, 1), b"$") {
+            return self.end_of_price(plus(index, 2));
+        }
+        if !self.is(index, b"$") {
             return None;
         }
-        let end = self.end_of_decimal(plus(index, 1))?;
-        if self.begins_column(end) {
+        let end = self.end_of_price(plus(index, 1))?;
+        let is_apart = self.is_after_mark_or_column(index)
+            || end >= self.len()
+            || self.begins_line(end);
+        if is_apart { Some(end) } else { None }
+    }
+
+    /// Where a price ends whose figure is at an index, as in `@ $10.00 per acre`: at a mark, or with its column.
+    fn end_of_price(&self, index: usize) -> Option<usize> {
+        let unit = self.end_of_decimal(index)?;
+        let is_per = self.is(unit, b"/") || self.is(unit, b"per");
+        let end = plus(unit, if is_per { 2 } else { 0 });
+        if self.is_mark(end) || self.begins_column(end) {
+            Some(end)
+        } else {
+            None
+        }
+    }
+
+    /// Where a decimal interest ends, as `0.06250000`, alone after a mark or in its column: no acreage has so many digits.
+    pub fn end_of_decimal_interest(&self, index: usize) -> Option<usize> {
+        let point = plus(index, 1);
+        let digits = plus(index, 2);
+        let end = plus(index, 3);
+        let is_decimal = self.is(index, b"0")
+            && self.is(point, b".")
+            && self.is_joined(point)
+            && self.is_joined(digits)
+            && matches!(self.kind(digits), Kind::Number(_) | Kind::BadNumber)
+            && self.size(digits) >= 3;
+        let is_last = self.is_mark(end) || self.begins_column(end);
+        if is_decimal && is_last && self.is_after_mark_or_column(index) {
             Some(end)
         } else {
             None
@@ -74,7 +108,16 @@ impl<'a> Pieces<'a> {
         );
         let has_point = self.is(figure, b".") || self.is(plus(figure, 1), b".");
         let number = plus(figure, usize::from(self.is(figure, b".")));
-        let end = self.end_of_decimal(number)?;
+        let last = plus(number, 2);
+        let is_long = self.is(number, b"0")
+            && self.is(plus(number, 1), b".")
+            && self.is_joined(last)
+            && matches!(self.kind(last), Kind::BadNumber);
+        let end = if is_long {
+            plus(last, 1)
+        } else {
+            self.end_of_decimal(number)?
+        };
         if has_point && (self.is_mark(end) || self.begins_column(end)) {
             Some(end)
         } else {

@@ -1,6 +1,7 @@
 //! What no remark contains, since it may name land, or limit it.
 
 use crate::marks::{has_no_title, is_homesite_of_acreage, is_metes_and_bounds};
+use crate::notes::is_of_company_name;
 use crate::pieces::{Pieces, plus};
 use twp_grammar::Kind;
 use twp_words::{
@@ -18,6 +19,7 @@ pub(crate) fn is_beyond_remark(pieces: &Pieces<'_>, index: usize) -> bool {
         || (is_of_calendar(pieces, index) && pieces.has_column_of_lots())
         || pieces.is_township_word(index)
         || pieces.is(index, b"?")
+        || (pieces.is(index, b"sale") && pieces.follows(index, b"timber"))
         || (pieces.is(index, b"'") && matches!(pieces.kind_before(index), Some(Kind::Number(_))))
         || (may_be_corners(pieces.lower(index))
             && !(pieces.is(index, b"sell") || pieces.is(index, b"need")))
@@ -35,6 +37,7 @@ pub(crate) fn is_beyond_remark(pieces: &Pieces<'_>, index: usize) -> bool {
         || ((is_partial(pieces.lower(index)) || is_beyond_label(pieces.lower(index)))
             && !is_of_instrument(pieces, index)
             && !pieces.is_percentage(plus(index, 1))
+            && !is_of_company_name(pieces, index)
             && !is_of_formula(pieces, index))
 }
 
@@ -71,7 +74,10 @@ pub(crate) fn is_size_or_acreage(pieces: &Pieces<'_>, index: usize) -> bool {
         pieces.lower_back(index, 1),
         Some(label) if is_of_label(label) || is_instrument(label) || is_of_record(label)
     );
-    let is_use = pieces.is(next, b"aums") || pieces.is(next, b"aum");
+    let is_use = pieces.is(next, b"aums")
+        || pieces.is(next, b"aum")
+        || pieces.is(next, b"nma")
+        || pieces.is(next, b"nra");
     !is_record
         && !is_use
         && (!pieces.is_joined(index) || pieces.follows(index, b"("))
@@ -129,6 +135,24 @@ fn is_of_instrument(pieces: &Pieces<'_>, index: usize) -> bool {
         && (pieces.follows(index, b"remise")
             || (pieces.follows(index, b",") && pieces.is_back(index, 2, b"remise")));
     let is_base = pieces.is(index, b"base") && pieces.is(next, b"property");
+    let is_in_land = pieces.is(next, b"in")
+        || pieces.is(next, b"under")
+        || pieces.is(next, b"underlying");
+    let is_of_minerals = (pieces.is(index, b"minerals") && is_in_land)
+        || (pieces.is(index, b"unleased")
+            && (pieces.is(next, b"minerals") || pieces.is(next, b"interest")));
+    let is_tax = pieces.is(index, b"tax")
+        && (pieces.is(next, b"deed")
+            || pieces.is(next, b"code")
+            || pieces.is(next, b"roll")
+            || pieces.is(next, b"district")
+            || pieces.is(next, b"id")
+            || pieces.is(next, b"acct")
+            || pieces.is(next, b"account")
+            || pieces.is(next, b"year")
+            || pieces.is(next, b"sale")
+            || pieces.is(next, b"cert")
+            || pieces.is(next, b"certificate"));
     let is_row = is_row_of_table(pieces, index)
         || is_type_of_case(pieces, index)
         || matches!(index.checked_sub(2), Some(row) if is_type_of_case(pieces, row));
@@ -141,6 +165,8 @@ fn is_of_instrument(pieces: &Pieces<'_>, index: usize) -> bool {
         || is_terminated
         || is_base
         || is_release
+        || is_tax
+        || is_of_minerals
         || is_row
 }
 

@@ -25,9 +25,35 @@ pub(crate) fn is_known_at(pieces: &Pieces<'_>, index: usize) -> bool {
 /// Whether a label before land that ends at an index is of a place in it, or of land that isn't meant.
 pub(crate) fn is_title_of_other(pieces: &Pieces<'_>, index: usize) -> bool {
     let word = pieces.lower(index);
-    (is_feature(word) && !pieces.follows(index, b"public"))
+    (is_same(word, b"name") && pieces.follows(index, b"well"))
+        || (is_feature(word) && !pieces.follows(index, b"public"))
         || is_doubtful_title(word)
         || (is_same(word, b"sale") && pieces.follows(index, b"timber"))
+}
+
+/// Whether the name of a well follows at an index, as in `Well: Kestrel 1-15H`, and its text is about interests in a unit,
+/// and not about the place of the well.
+pub(crate) fn is_well_of_unit(pieces: &Pieces<'_>, index: usize) -> bool {
+    let is_named = pieces.is(plus(index, 1), b":")
+        && (pieces.is(index, b"well")
+            || (pieces.is(index, b"name") && pieces.follows(index, b"well")));
+    is_named && is_about_unit(pieces)
+}
+
+/// Whether a text is about interests in a unit.
+fn is_about_unit(pieces: &Pieces<'_>) -> bool {
+    for place in 0..pieces.len() {
+        let is_interest = pieces.is(place, b"unit")
+            || pieces.is(place, b"doi")
+            || pieces.is(place, b"nri")
+            || pieces.is(place, b"decimal")
+            || pieces.is(place, b"orri")
+            || pieces.is(place, b"interest");
+        if is_interest {
+            return true;
+        }
+    }
+    false
 }
 
 /// Whether the number at an index is of the name of a well, which may have the numbers of two sections, as

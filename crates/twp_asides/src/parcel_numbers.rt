@@ -43,6 +43,9 @@ impl<'a> Pieces<'a> {
             return None;
         }
         let number = self.after_number_word(name);
+        if let Some(end) = self.end_of_code(number) {
+            return Some(end);
+        }
         if !matches!(self.kind(number), Kind::Number(_) | Kind::BadNumber) {
             return None;
         }

@@ -21,11 +21,11 @@ impl<'a> Pieces<'a> {
 
     /// Where `Qtr/Qtr:` at an index ends, before a quarter of a quarter.
     pub(crate) fn end_of_quarter_of_quarter(&self, index: usize) -> Option<usize> {
-        let mark = plus(index, 3);
+        let has_slash = self.is(plus(index, 1), b"/");
+        let mark = plus(index, if has_slash { 3 } else { 2 });
         let value = plus(mark, 1);
         let is_name = self.is(index, b"qtr")
-            && self.is(plus(index, 1), b"/")
-            && self.is(plus(index, 2), b"qtr");
+            && matches!(mark.checked_sub(1), Some(second) if self.is(second, b"qtr"));
         let has_mark = self.is(mark, b":") || self.is(mark, b"=");
         if is_name && has_mark && self.size(value) == 4 && self.begins_part(value) {
             Some(value)
@@ -43,6 +43,42 @@ impl<'a> Pieces<'a> {
             || self.is(index, b"qqsec")
             || self.is(index, b"qtrqtr");
         let has_mark = self.is(mark, b":") || self.is(mark, b"=");
-        is_name && has_mark && self.size(value) == 4 && self.begins_part(value)
+        let is_alone = self.is(index, b"qtr") && self.has_one_column_of_quarters();
+        has_mark
+            && self.begins_part(value)
+            && ((is_name && self.size(value) == 4) || (is_alone && self.size(value) == 2))
+    }
+
+    /// Whether one column of the text is for quarters, so that its value is no part of another one.
+    fn has_one_column_of_quarters(&self) -> bool {
+        let mut count: usize = 0;
+        for index in 0..self.len() {
+            let is_name = self.is(index, b"q")
+                || self.is(index, b"qq")
+                || self.is(index, b"qtr")
+                || self.is(index, b"qsec")
+                || self.is(index, b"qqsec")
+                || self.is(index, b"qtrsec")
+                || self.is(index, b"qtrqtr")
+                || self.is(index, b"quarter");
+            count = plus(count, usize::from(is_name));
+        }
+        count == 1
+    }
+
+    /// Where `Twp-Rng`, or `Twp/Rge:`, at an index ends, before a township without a word for it.
+    pub(crate) fn end_of_label_of_township(&self, index: usize) -> Option<usize> {
+        let mark = plus(index, 1);
+        let range = plus(index, 2);
+        let end = plus(index, 3);
+        let number = plus(end, usize::from(self.is(end, b":")));
+        let is_label = self.is(index, b"twp")
+            && (self.is(mark, b"-") || self.is(mark, b"/"))
+            && (self.is(range, b"rng") || self.is(range, b"rge"));
+        if is_label && self.number(number).is_some() && self.is_north_south(plus(number, 1)) {
+            Some(number)
+        } else {
+            None
+        }
     }
 }

@@ -1,6 +1,7 @@
 //! What a remark before land may end with: the number of a record, who conveys land, a sentence; and the questions
 //! after land.
 
+use crate::leads::is_sure_part;
 use crate::pieces::{Pieces, plus};
 use twp_grammar::Kind;
 use twp_words::{is_same, points_into};
@@ -79,7 +80,23 @@ pub(crate) fn is_end_of_sentence(pieces: &Pieces<'_>, index: usize) -> bool {
     pieces.is(index, b".")
         && pieces.is_joined(index)
         && !pieces.is_joined(next)
-        && (matches!(pieces.kind(next), Kind::Sec) || pieces.begins_tier(next))
+        && (matches!(pieces.kind(next), Kind::Sec)
+            || pieces.begins_tier(next)
+            || is_sure_part(pieces, next)
+            || matches!(pieces.kind(next), Kind::Lot)
+            || (matches!(pieces.kind(next), Kind::The) && pieces.begins_part(next))
+            || begins_named_value(pieces, next))
+}
+
+/// Whether the name of a value, and a colon, begin at an index after a sentence, as in `Bk 30 Pg 11. Grantor: Ole Berg`.
+pub(crate) fn begins_named_value(pieces: &Pieces<'_>, index: usize) -> bool {
+    let is_after_word = matches!(pieces.lower_back(index, 2), Some([_, _, ..]));
+    pieces.follows(index, b".")
+        && is_after_word
+        && !pieces.is_joined(index)
+        && matches!(pieces.kind(index), Kind::Other)
+        && pieces.begins_with_letter(index)
+        && pieces.is(plus(index, 1), b":")
 }
 
 /// Whether a question or a request after land begins at an index, as in `Do we have a lease on this?`

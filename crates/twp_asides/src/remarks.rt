@@ -1,19 +1,27 @@
 //! Remarks beside land: a cell, a line, a sentence, or parentheses that name no land.
 ghost use Rattle.std.specs.Prelude.{◌<◌};
 
+use crate::leads::{ends_lead, ends_record};
 use crate::limits::{is_beyond_remark, is_row_of_table, is_type_of_case, limits_land_at};
 use crate::marks::{
     begins_tract, is_homesite_of_acreage, is_initial, is_known_at, is_of_well, is_title_of_other,
+    is_well_of_unit,
+};
+use crate::notes::{
+    begins_address, begins_code_of_state, begins_oil_and_gas, is_before_file_number,
+    is_before_section_and_tier, is_before_the_land, is_dash_after_note, is_in_cell,
+    is_of_company_name, is_of_long_figure, may_begin_note,
 };
 use crate::pieces::{Pieces, plus};
 use crate::remark_ends::{
-    begins_question, is_after_conveyance, is_after_record, is_end_of_question, is_end_of_sentence,
+    begins_named_value, begins_question, is_after_conveyance, is_after_record, is_end_of_question,
+    is_end_of_sentence,
 };
 use crate::trailers::end_of_depths;
 use twp_grammar::Kind;
 use twp_words::{
     adds_land, begins_reference, begins_terms, is_acres, is_boundary, is_instrument, is_more,
-    is_of_covering, is_of_time, is_of_water, is_state, names_parcel, points_into,
+    is_of_covering, is_of_time, is_of_water, names_parcel, points_into,
 };
 
 /// The most pieces of a remark.
@@ -56,10 +64,13 @@ pub fn end_of_remark(pieces: &Pieces<'_>, index: usize, position: Position) -> O
         || begins_address(pieces, index)
         || is_name_of_value(pieces, index)
         || is_homesite_of_acreage(pieces, index)
-        || begins_question(pieces, index);
+        || begins_question(pieces, index)
+        || is_in_cell(pieces, index);
     let mut next = index;
     for place in index..plus(index, PIECES_MOST) {
-        if place > index && (place >= pieces.len() || ends_remark(pieces, place, position)) {
+        let ends_note = is_sure && has_word && is_dash_after_note(pieces, place, position);
+        let is_end = place >= pieces.len() || ends_note || ends_remark(pieces, place, position);
+        if place > index && is_end {
             if !has_word || !is_sure || !may_end_remark(pieces, index, place, position) {
                 return None;
             }
@@ -81,7 +92,7 @@ pub fn end_of_remark(pieces: &Pieces<'_>, index: usize, position: Position) -> O
             return None;
         }
         has_word = has_word || says_something(pieces, place);
-        is_sure = is_sure || is_known_at(pieces, place);
+        is_sure = is_sure || is_known_at(pieces, place) || is_of_long_figure(pieces, place);
     }
     None
 }
@@ -95,7 +106,10 @@ fn may_end_remark(pieces: &Pieces<'_>, index: usize, place: usize, position: Pos
     match position {
         Position::BeforeLand if place >= pieces.len() => false,
         Position::BeforeLand if is_after_conveyance(pieces, place) => true,
-        Position::BeforeLand if is_title_of_other(pieces, last) => is_type_of_case(pieces, index),
+        Position::BeforeLand if ends_lead(pieces, place) => true,
+        Position::BeforeLand if is_title_of_other(pieces, last) => {
+            is_type_of_case(pieces, index) || is_well_of_unit(pieces, last)
+        }
         _ => place <= plus(index, 1) || !points_into(pieces.lower(last)),
     }
 }
@@ -112,8 +126,8 @@ fn leaves_remark(pieces: &Pieces<'_>, index: usize, place: usize, position: Posi
         Position::BeforeLand => is_area_before_land(pieces, index, place),
         Position::AfterLand => {
             may_be_parcel(pieces, index, place)
-                || is_boundary(pieces.lower(place))
-                || limits_land_at(pieces, place)
+                || (is_boundary(pieces.lower(place)) && !is_of_company_name(pieces, place))
+                || (limits_land_at(pieces, place) && !is_of_company_name(pieces, place))
                 || may_end_label(pieces, place)
         }
     };
@@ -132,6 +146,9 @@ fn is_area_before_land(pieces: &Pieces<'_>, index: usize, place: usize) -> bool 
     );
     is_acres(pieces.lower(place))
         && place > index
+        && !pieces.follows(place, b"/")
+        && !pieces.follows(place, b"an")
+        && !is_of_company_name(pieces, place)
         && (pieces.is(plus(place, 1), b"of") || !is_large)
 }
 
@@ -146,6 +163,8 @@ fn is_name_of_water(pieces: &Pieces<'_>, place: usize, position: Position) -> bo
 fn may_be_parcel(pieces: &Pieces<'_>, index: usize, place: usize) -> bool {
     place > index
         && names_parcel(pieces.lower(place))
+        && !is_of_company_name(pieces, place)
+        && !pieces.is(plus(place, 1), b"factor")
         && !pieces.is(index, b"total")
         && !pieces.follows(place, b"/")
         && !pieces.follows(place, b"per")
@@ -164,13 +183,19 @@ fn begins_remark(pieces: &Pieces<'_>, index: usize, position: Position) -> bool 
         || is_name_of_value(pieces, index)
         || match position {
             Position::BeforeLand => is_after_mark_of_label(pieces, index),
-            Position::AfterLand => is_after_sentence(pieces, index),
+            Position::AfterLand => {
+                is_after_sentence(pieces, index) || may_begin_note(pieces, index)
+            }
         };
     if !is_apart && !pieces.is_share(index) {
         return false;
     }
     let is_new = match position {
-        Position::AfterLand => adds_land(pieces.lower(index)) && !begins_tract(pieces, index),
+        Position::AfterLand => {
+            adds_land(pieces.lower(index))
+                && !begins_tract(pieces, index)
+                && !pieces.is(plus(index, 1), b"factor")
+        }
         Position::BeforeLand => is_more(pieces.lower(index)),
     };
     let is_first = match pieces.kind(index) {
@@ -188,6 +213,8 @@ fn begins_remark(pieces: &Pieces<'_>, index: usize, position: Position) -> bool 
         Kind::To => position == Position::BeforeLand,
         _ => matches!(pieces.lower(index), [b'a'..=b'z', _, ..])
             || is_initial(pieces, index)
+            || pieces.is(index, b"i")
+            || pieces.is(index, b"a")
             || pieces.begins_title(index)
             || pieces.end_of_file_number(index).is_some()
             || begins_oil_and_gas(pieces, index)
@@ -195,11 +222,6 @@ fn begins_remark(pieces: &Pieces<'_>, index: usize, position: Position) -> bool 
             || pieces.end_of_code(index).is_some(),
     };
     is_first && !is_new
-}
-
-/// Whether `O&G` is at an index.
-fn begins_oil_and_gas(pieces: &Pieces<'_>, index: usize) -> bool {
-    pieces.is(index, b"o") && pieces.is(plus(index, 1), b"&") && pieces.is(plus(index, 2), b"g")
 }
 
 /// Whether the name of a value is at an index, as in `CAT=1`.
@@ -218,6 +240,7 @@ fn is_after_mark_of_label(pieces: &Pieces<'_>, index: usize) -> bool {
         || pieces.follows(index, b"=")
         || (pieces.is_after_dash(index) && !pieces.is_joined(index))
         || (pieces.follows(index, b":") && !pieces.is_joined(index))
+        || begins_named_value(pieces, index)
 }
 
 /// Whether the period of a sentence, with white space after it, or acreage with decimals is before an index.
@@ -252,6 +275,10 @@ fn ends_remark(pieces: &Pieces<'_>, index: usize, position: Position) -> bool {
                 || is_after_record(pieces, index)
                 || is_end_of_sentence(pieces, index)
                 || is_after_conveyance(pieces, index)
+                || ends_lead(pieces, index)
+                || ends_record(pieces, index)
+                || is_before_the_land(pieces, index)
+                || is_before_section_and_tier(pieces, index)
                 || pieces.is_for_before_land(index)
                 || matches!(pieces.kind(index), Kind::Semicolon)
                 || pieces.begins_register(index)
@@ -260,23 +287,9 @@ fn ends_remark(pieces: &Pieces<'_>, index: usize, position: Position) -> bool {
         Position::AfterLand => matches!(pieces.kind(index), Kind::Semicolon),
     };
     let is_colon = position == Position::BeforeLand
+        && !is_before_file_number(pieces, plus(index, 1))
         && (matches!(pieces.kind(index), Kind::Colon) || pieces.is(index, b"="));
     is_mark || is_colon || pieces.begins_column(index)
-}
-
-/// Whether the address of land is at an index, as in `Commonly known as: 1290 Robinson Rd`.
-fn begins_address(pieces: &Pieces<'_>, index: usize) -> bool {
-    pieces.is(index, b"commonly")
-        && pieces.is(plus(index, 1), b"known")
-        && pieces.is(plus(index, 2), b"as")
-        && pieces.is(plus(index, 3), b":")
-}
-
-/// Whether the letters of a state are at an index, and a township of a register after them, as in
-/// `ID080020N0030W`.
-fn begins_code_of_state(pieces: &Pieces<'_>, index: usize) -> bool {
-    let next = plus(index, 1);
-    is_state(pieces.lower(index)) && pieces.is_joined(next) && pieces.begins_register(next)
 }
 
 /// Whether a colon at an index may end the label of other land: no word of two letters or more, no price, and
@@ -338,7 +351,10 @@ fn end_of_parentheses(pieces: &Pieces<'_>, index: usize) -> Option<usize> {
         if pieces.is(place, mark) {
             return if is_sure { Some(plus(place, 1)) } else { None };
         }
-        is_sure = is_sure || is_known_at(pieces, place) || pieces.is(place, b"file");
+        is_sure = is_sure
+            || is_known_at(pieces, place)
+            || is_of_long_figure(pieces, place)
+            || pieces.is(place, b"file");
         let is_beyond = is_beyond_remark(pieces, place)
             || is_boundary(pieces.lower(place))
             || names_parcel(pieces.lower(place))

@@ -117,6 +117,9 @@ impl<'a> Pieces<'a> {
             return None;
         }
         let number = plus(index, 1);
+        if self.is_joined(number) && self.begins_with_letter(number) {
+            return self.end_of_code(number);
+        }
         let is_number = matches!(self.kind(number), Kind::Number(_) | Kind::BadNumber);
         if is_number && self.size(number) >= 4 && self.is_joined(number) {
             Some(plus(number, 1))

@@ -218,7 +218,7 @@ fn trailer_with_next(pieces: &Pieces<'_>, word: &[u8], next: usize) -> Option<Tr
         || (is_same(word, b"appraised") && pieces.is(next, b"at"))
         || (is_same(word, b"sold") && pieces.is(next, b"for"));
     let is_end = is_same(word, b"only")
-        && matches!(pieces.kind(next), Kind::Stop | Kind::Semicolon);
+        && (next >= pieces.len() || matches!(pieces.kind(next), Kind::Stop | Kind::Semicolon));
     if is_shown || is_end || is_filed || is_priced {
         return Some(Trailer::Terms);
     }

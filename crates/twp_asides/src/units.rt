@@ -2,7 +2,8 @@
 //! abbreviation, as in `Gr Ac 400`.
 
 use crate::pieces::{Pieces, plus};
-use twp_words::{is_acres, is_same};
+use twp_grammar::Kind;
+use twp_words::{is_acres, is_net_or_gross, is_same};
 
 /// The most sections of a township: a greater number is acreage.
 const SECTIONS: u16 = 36;
@@ -34,8 +35,22 @@ impl<'a> Pieces<'a> {
             return None;
         }
         if !names_land {
+            let being = plus(end, usize::from(self.is(end, b",")));
+            let is_first = self.begins_line(index) || self.follows(index, b":");
             let is_label = self.begins_line(index) && self.is(end, b":");
-            return if is_label { Some(plus(end, 1)) } else { None };
+            let is_same = is_first && self.is(being, b"being") && self.begins_part(plus(being, 1));
+            let is_all = matches!(self.kind(being), Kind::All | Kind::Sec)
+                || self.begins_part(being);
+            if is_first && is_all && being > end {
+                return Some(end);
+            }
+            return if is_label {
+                Some(plus(end, 1))
+            } else if is_same {
+                Some(plus(being, 1))
+            } else {
+                None
+            };
         }
         let is_apart = self.is_after_dash(index)
             || self.follows(index, b",")
@@ -61,12 +76,31 @@ impl<'a> Pieces<'a> {
         }
     }
 
+    /// The index after `and 320 net acres`, if that is at an index.
+    pub(crate) fn after_other_acreage(&self, index: usize) -> usize {
+        let number = plus(index, 1);
+        let kind = self.end_of_decimal(number).unwrap_or(number);
+        let is_other = self.is(index, b"and")
+            && kind > number
+            && is_net_or_gross(self.lower(kind))
+            && is_acres(self.lower(plus(kind, 1)));
+        if is_other { plus(kind, 2) } else { index }
+    }
+
     /// The index after `comprising one`, or words like it, before the acreage of a unit.
     fn after_lead_of_unit(&self, index: usize) -> usize {
         let next = plus(index, 1);
         let is_lead = (self.is(index, b"comprising") || self.is(index, b"constituting"))
             && (self.is(next, b"one") || self.is(next, b"a"));
-        if is_lead { plus(next, 1) } else { index }
+        if is_lead {
+            return plus(next, 1);
+        }
+        let is_article = self.is(index, b"a") || self.is(index, b"an") || self.is(index, b"one");
+        if is_article && self.number(next).is_some() {
+            next
+        } else {
+            index
+        }
     }
 }
 

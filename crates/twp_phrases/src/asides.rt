@@ -44,10 +44,11 @@ impl<'a> Finder<'a> {
         } else {
             index
         };
-        let first = pieces.after_being(word);
-        if first == word || !self.names_land {
+        let being = pieces.after_being(word);
+        if being == word || !self.names_land {
             return None;
         }
+        let first = pieces.after_all_of(being);
         let mut end = first;
         let mut has_more = true;
         for _ in 0..self.draft.pieces.len() {
@@ -143,6 +144,7 @@ impl<'a> Finder<'a> {
                 .or(pieces.end_of_years(index))
                 .or(pieces.end_of_lettered_share(index))
                 .or(pieces.end_of_money(index))
+                .or(pieces.end_of_decimal_interest(index))
         } else {
             pieces.end_of_words_before(index)
         };
@@ -283,7 +285,8 @@ impl<'a> Finder<'a> {
     /// The parentheses at an index with the land before them again.
     fn repeated(&mut self, index: usize) -> Option<usize> {
         let from = self.draft.extent();
-        let first = self.draft.pieces.after_being(plus(index, 1));
+        let being = self.draft.pieces.after_being(plus(index, 1));
+        let first = self.draft.pieces.after_all_of(being);
         let before = self.draft.last_names()?;
         let land = if matches!(self.draft.pieces.kind(first), Kind::All) {
             plus(first, 1)

@@ -62,7 +62,7 @@ impl<'a> Finder<'a> {
         let next = plus(digits, 1);
         let has_stop = digits > plus(index, 1);
         if !pieces.is(index, b"s")
-            || !(pieces.is_joined(digits) || has_stop)
+            || !(pieces.is_joined(digits) || has_stop || pieces.is_township_word(next))
             || (pieces.is_joined(next) && !pieces.is_after_tag(next))
         {
             return None;
@@ -142,7 +142,8 @@ impl<'a> Finder<'a> {
         }
         let is_list = last == Some(Names::All)
             && (pieces.follows(index, b"of")
-                || matches!(pieces.kind_before(index), Some(Kind::All)));
+                || matches!(pieces.kind_before(index), Some(Kind::All)))
+            && !pieces.is_before_dash_and_tier(plus(index, 1));
         if !is_list && !self.is_bare_section(index) {
             return None;
         }
@@ -228,12 +229,27 @@ impl<'a> Finder<'a> {
         if let Some(is_section) = self.is_section_by_marks(index) {
             return is_section;
         }
+        if self.is_first_before_tier(index) && self.end_of_heading(next).is_some() {
+            return true;
+        }
         if let Some(is_section) = self.is_section_by_place(index) {
             return is_section;
         }
         self.is_before_end_or_and(next)
             || self.end_of_heading(next).is_some()
             || (self.draft.pieces.follows(index, b"of") && self.is_before_dash_or_except(next))
+    }
+
+    /// Whether the number at an index is before a township, and no land before it, as in `GRAZING LAND 11 2N 3W`.
+    fn is_first_before_tier(&self, index: usize) -> bool {
+        let pieces = &self.draft.pieces;
+        let next = plus(index, 1);
+        let is_first = matches!(self.draft.last_names(), None | Some(Names::Nothing(_)));
+        is_first
+            && !self.names_land
+            && !pieces.is_joined(index)
+            && !pieces.is_joined(next)
+            && pieces.begins_tier(next)
     }
 
     /// Whether a dash, or an exception, is at an index, after `of` and a number.
@@ -302,7 +318,16 @@ impl<'a> Finder<'a> {
         if pieces.is(next, b":") && (is_first || is_apart) {
             return Some(plus(next, 1) < pieces.len());
         }
-        if pieces.is_before_dash_and_land(next) && is_apart {
+        let is_listed = match self.draft.last_section {
+            Some(section) => {
+                pieces.follows(index, b",") && matches!(pieces.kind(section.first), Kind::Number(_))
+            }
+            None => false,
+        };
+        let is_row = is_after_semicolon || is_listed || pieces.begins_line(index);
+        if (pieces.is_before_dash_and_land(next) && is_apart)
+            || (pieces.is_before_hyphen_and_land(next) && is_row)
+        {
             return Some(true);
         }
         let is_list = match self.draft.last_section {

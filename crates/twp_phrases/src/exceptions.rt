@@ -36,7 +36,9 @@ impl<'a> Finder<'a> {
         let pieces = &self.draft.pieces;
         let second = plus(index, 1);
         let third = plus(index, 2);
-        if pieces.is(index, b"l") && pieces.is(second, b"&") && pieces.is(third, b"e") {
+        let is_short = pieces.is(second, b"&")
+            || (pieces.is(second, b"/") && pieces.is_joined(third));
+        if pieces.is(index, b"l") && is_short && pieces.is(third, b"e") {
             return Some(plus(third, 1));
         }
         if (pieces.is(index, b"less") || pieces.is(index, b"save"))

@@ -50,10 +50,18 @@ impl<'a> Finder<'a> {
         let second = plus(index, 1);
         let is_in_parentheses = pieces.follows(index, b"(") && pieces.begins_tier(second);
         let is_all = pieces.is(index, b"all")
-            && (pieces.is(second, b"in") || pieces.is(second, b"of") || is_in_parentheses);
+            && (pieces.is(second, b"in")
+                || pieces.is(second, b"of")
+                || pieces.is(plus(second, 1), b"in")
+                || is_in_parentheses);
         let next = self.without_word(index, is_all, Rule::Word);
         let is_of = self.draft.pieces.is(next, b"of");
         let next = self.without_word(next, is_of, Rule::Heading);
+        let is_situated = (self.draft.pieces.is(next, b"situated")
+            || self.draft.pieces.is(next, b"situate")
+            || self.draft.pieces.is(next, b"located"))
+            && self.draft.pieces.is(plus(next, 1), b"in");
+        let next = self.without_word(next, is_situated, Rule::Heading);
         let is_in = self.draft.pieces.is(next, b"in");
         self.without_word(next, is_in, Rule::Heading)
     }

@@ -31,7 +31,7 @@ impl<'a> Finder<'a> {
             self.draft.leave_out_each(index, word, Rule::Word);
             self.draft.leave_out(word, first, Rule::Word);
         }
-        if !is_fractional && self.draft.pieces.is(index, b"the") {
+        if !is_fractional && self.draft.pieces.is_article(index) {
             self.draft.leave_out(index, plus(index, 1), Rule::Word);
             first = plus(index, 1);
         }
@@ -165,11 +165,13 @@ impl<'a> Finder<'a> {
             self.draft.leave_out(next, plus(next, 1), Rule::Word);
             return self.step(plus(next, 1));
         }
-        let next = if self.draft.pieces.is(next, b"the") {
-            plus(next, 1)
-        } else {
-            next
-        };
+        if self.draft.pieces.is(next, b"the") {
+            return self.step(plus(next, 1));
+        }
+        if self.draft.pieces.is_article(next) {
+            self.draft.leave_out(next, plus(next, 1), Rule::Word);
+            return self.step(plus(next, 1));
+        }
         self.step(next)
     }
 

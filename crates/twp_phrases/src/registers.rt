@@ -30,7 +30,9 @@ impl<'a> Finder<'a> {
         let pieces = &self.draft.pieces;
         pieces.is(index, b"0")
             && pieces.is_joined(index)
-            && !pieces.is_joined(plus(index, 1))
+            && (!pieces.is_joined(plus(index, 1))
+                || pieces.is(plus(index, 1), b";")
+                || pieces.is(plus(index, 1), b","))
             && matches!(index.checked_sub(2), Some(range) if pieces.has_digits(range, 4))
     }
 

@@ -59,15 +59,27 @@ impl<'a> Finder<'a> {
         if let Some(end) = self.whole_remark(index) {
             return Some(end);
         }
-        if !self.names_land || !self.may_be_known_run(index) {
+        if !self.names_land {
             return None;
         }
         let end = self.draft.pieces.end_of_known_run(index)?;
+        if !self.may_be_known_run(index) && !self.is_last_run(index, end) {
+            return None;
+        }
         let from = self.draft.extent();
         Some(
             self.draft
                 .add(Names::Nothing(LeftOut::Label), index, end, from),
         )
+    }
+
+    /// Whether a run of known words after land, without a mark between them, ends its line, as in `NENE Sec 14 AUTHORIZED`.
+    fn is_last_run(&self, index: usize, end: usize) -> bool {
+        let is_beside = match self.draft.phrases.last() {
+            Some(placed) => placed.phrase.end == index,
+            None => false,
+        };
+        is_beside && (end >= self.draft.pieces.len() || self.draft.pieces.begins_line(end))
     }
 
     /// Whether a run of known words may begin at an index: after a mark, or what is left out, or in parentheses.

@@ -11,6 +11,14 @@ sides = words (codes "n s e w n. s. e. w. north south east west no. so.")
 abbrev pub corners : List (List ℕ)
 corners = texts (codes "ne|nw|se|sw|e.|w.|east|west| e| w")
 
+-- what scanning leaves of them
+abbrev pub worn_sides : List (List ℕ)
+worn_sides = words (codes "nortb soutb nortli soutli norlh soulh eaet eaat eust weat weet")
+    ++ words (codes "sonth uorth nortn soutn")
+
+abbrev pub worn_corners : List (List ℕ)
+worn_corners = words (codes "cast easl easr easf eust eaat eaet wcst wesl wesr wesf vest weat wect wert")
+
 -- what the range of a township ends with, and words for one that was named before
 abbrev pub heading_ends : List (List ℕ)
 heading_ends = words (codes "e w e. w. east west e) w) township range")
@@ -76,6 +84,8 @@ acreage_ends = words (codes "acres acre ac acres. ac. less m/l ) pooled total ne
 -- or begins with, after white space
 abbrev pub acreage_fronts : List (List ℕ)
 acreage_fronts = texts (codes "acres|acreage|ac|gross|net|total|containing|the area|gr ac|gr. ac|in all")
+    ++ texts (codes "case acres|unit acres|lease acres|gis acres|calc acres|legal acres|leased acres")
+    ++ texts (codes "parcel acres|assessed acres|deeded acres")
 
 -- what is said of land begins with, if it isn't a remark: rights,
 abbrev pub rights : List (List ℕ)
@@ -108,6 +118,8 @@ title_fronts = texts (codes "e.o.|w.d.|point of diversion|formerly lease|tax dee
     ++ texts (codes "part of that certain oil|part of that certain lease|part of that certain paid")
     ++ texts (codes "part of that certain memorandum|part of that certain assignment")
     ++ texts (codes "part of the oil and gas lease|s-t-r|w/min|w/o min")
+    ++ texts (codes "tax code|tax roll|tax district|tax id|tax acct|tax account|tax year|tax sale")
+    ++ texts (codes "tax cert")
 
 -- and what they end with
 abbrev pub title_ends : List (List ℕ)
@@ -121,6 +133,8 @@ number_fronts = words (codes "lease rp pin apn")
 -- what an interest begins with,
 abbrev pub interest_fronts : List (List ℕ)
 interest_fronts = texts (codes "an und|und|one-half|one half|all the right|all right")
+    ++ texts (codes "decedent|the decedent|grantor|lessor|seller|his|her|their|our|my|one-third")
+    ++ texts (codes "one third|one-fourth|one fourth|one quarter|one-quarter|a one|an one")
 
 -- or a property
 abbrev pub property_fronts : List (List ℕ)

@@ -25,7 +25,8 @@ use Rattle.twp_rules.specs.Tables.{worn_section_words}
 use Rattle.twp_rules.specs.Endings.{acreage_ends, acreage_fronts, being_fronts, corners, digits}
 use Rattle.twp_rules.specs.Endings.{half_texts, heading_ends, meridian_ends, meridian_fronts, meridian_labels}
 use Rattle.twp_rules.specs.Endings.{more_states, parenthesis_ends, quarter_texts, section_again, section_ends}
-use Rattle.twp_rules.specs.Endings.{sides, state_letters, states, worn_section_ends}
+use Rattle.twp_rules.specs.Endings.{sides, state_letters, states, worn_corners, worn_section_ends}
+use Rattle.twp_rules.specs.Endings.{worn_sides}
 use Rattle.twp_rules.specs.Endings.{all_but, but_what, dash_marks, first_exceptions, meridian_letters}
 use Rattle.twp_rules.specs.Endings.{tens_ends}
 use Rattle.twp_rules.specs.Edges.{begins_with, begins_with_one, byte_before, ends_with, ends_with_one}
@@ -286,12 +287,12 @@ is_between_numbers text start end seen =
 abbrev pub allows : Rule → List ℕ → ℕ → ℕ → List ℕ → List ℕ → Bool
 allows Half text start end seen written =
     (is_among (without_white seen) written halves || is_among (without_white seen) written worn_halves)
-    && ends_with_one (take start text) sides
+    && (ends_with_one (take start text) sides || ends_with_one (take start text) worn_sides)
 allows Quarter text start end seen written =
     (is_among (without_white seen) written quarters
     || is_among (without_white seen) written quarter_abbreviations
     || is_among (without_white seen) written worn_quarters)
-    && ends_with_one (take start text) corners
+    && (ends_with_one (take start text) corners || ends_with_one (take start text) worn_corners)
 allows Direction text start end seen written =
     (is_among seen written directions || is_among seen written worn_directions)
     && is_whole_word text start end

@@ -90,6 +90,7 @@ worn_halves = all_as (words (codes "l/2 i/2 '/2") ++ (right_quote ++ codes "/2")
     ++ all_as
     (words (codes "]/2 !/2 |/2 1/ 2/2 1/z v2 y2 % } 112") ++ pound_sign ∷ (195 ∷ 130 ∷ half_sign) ∷ [])
     (codes "1/2")
+    ++ all_as (words (codes "haif balf lialf hali hulf holf hall")) (codes "1/2")
 
 -- QUARTER: after NE, NW, SW, or SE, and white space, if any
 abbrev pub quarters : List Entry
@@ -103,6 +104,9 @@ worn_quarters = all_as (words (codes "^ l/4 i/4 '/4") ++ (right_quote ++ codes "
     ++ all_as (words (codes "]/4 !/4 |/4 1/ v4 y4 % quater i a 1a } 114") ++ pound_sign ∷ []) (codes "1/4")
     ++ all_as ((codes "quar-" ++ 10 ∷ codes "ter") ∷ (195 ∷ 130 ∷ quarter_sign) ∷ []) (codes "1/4")
     ++ all_as (words (codes "'a !4 ^4 j")) (codes "1/4")
+    ++ all_as (words (codes "quaiter qnarter quartcr quarier quarler quartor quartet")) (codes "1/4")
+    ++ all_as (words (codes "quarteb quartev quaitei quarfer quartar qunrter guarter")) (codes "1/4")
+    ++ all_as (words (codes "quorter")) (codes "1/4")
 
 -- or abbreviated
 abbrev pub quarter_abbreviations : List Entry
@@ -119,6 +123,7 @@ damaged_corners = all_as (words (codes "5 8")) (codes "S")
 abbrev pub exceptions : List Entry
 exceptions = all_as (words (codes "less except excepting excluding save exc exclusive")) (codes " except ")
     ++ all_as (words (codes "l&e minus but with ex ls excl")) (codes " except ")
+    ++ all_as (words (codes "l/e")) (codes " except ")
 
 -- DIRECTION: words for sides and corners
 abbrev pub directions : List Entry
@@ -132,6 +137,23 @@ worn_directions = all_as (words (codes "nothwest norhwest nortwest northwset")) 
     ++ all_as (words (codes "notheast norhteast norteast northeat")) (codes "NE")
     ++ all_as (words (codes "sothwest souhwest soutwest")) (codes "SW")
     ++ all_as (words (codes "sotheast souhteast souteast")) (codes "SE")
+    ++ all_as (words (codes "nortbeast nortlieast northcast norlheast northeasl norrheast")) (codes "NE")
+    ++ all_as (words (codes "northeasr norfheast northeasf northeust northeaat noitheast")) (codes "NE")
+    ++ all_as (words (codes "novtheast nertheast ncrtheast uortheast mortheast nortneast")) (codes "NE")
+    ++ all_as (words (codes "northeaet")) (codes "NE")
+    ++ all_as (words (codes "nortbwest nortliwest northwcst norlhwest northwesl norrhwest")) (codes "NW")
+    ++ all_as (words (codes "northwesr norfhwest northwesf northweat noithwest novthwest")) (codes "NW")
+    ++ all_as (words (codes "nerthwest ncrthwest northvest uorthwest morthwest nortnwest")) (codes "NW")
+    ++ all_as (words (codes "nertlwest northwert northwect")) (codes "NW")
+    ++ all_as (words (codes "soutbeast soutlieast southcast soulheast southeasl sourheast")) (codes "SE")
+    ++ all_as (words (codes "southeasr soufheast southeasf southeust aoutheast southeaat")) (codes "SE")
+    ++ all_as (words (codes "sontheast seutheast scutheast soutneast southeaet")) (codes "SE")
+    ++ all_as (words (codes "soutbwest soutliwest southwcst soulhwest southwesl sourhwest")) (codes "SW")
+    ++ all_as (words (codes "southwesr soufhwest southwesf aouthwest southweat sonthwest")) (codes "SW")
+    ++ all_as (words (codes "seuthwest scuthwest southvest soutnwest")) (codes "SW")
+    ++ pairs (words (codes "nortb=N nortli=N norlh=N soutb=S soutli=S soulh=S eaet=E eaat=E eust=E"))
+    ++ pairs (words (codes "weat=W weet=W"))
+    ++ pairs (words (codes "sonth=S uorth=N nortn=N soutn=S"))
 
 -- NUMERAL: words for numbers up to twelve
 abbrev pub numerals : List Entry
@@ -152,6 +174,10 @@ abbrev pub heading_words : List Entry
 heading_words = all_as (words (codes "township twp tp twsp")) (codes "T.")
     ++ all_as (words (codes "range rng rge rg")) (codes "R.")
     ++ pairs (texts (codes "in=|of=|0sn=, sec. |a=|numbered=|aliquot part:=|aliquot part=|twn=T.|no.="))
+    ++ all_as (words (codes "townsbip townsliip towuship townahip townshlp townehip")) (codes "T.")
+    ++ all_as (words (codes "tewnship twonship twnship")) (codes "T.")
+    ++ all_as (words (codes "rauge rangc ronge")) (codes "R.")
+    ++ all_left_out (words (codes "situated situate located"))
 
 -- and the marks in them
 abbrev pub heading_marks : List Entry
@@ -168,6 +194,7 @@ abbrev pub worn_section_words : List Entry
 worn_section_words =
     all_as (words (codes "scc sce seo see secton sectlon sectoin seciton sectiou seclion seotion sectior"))
     (codes "sec") ++ all_as ((codes "sec-" ++ 10 ∷ codes "tion") ∷ []) (codes "sec")
+    ++ all_as (words (codes "scction seetion secfion sectian sectien soction")) (codes "sec")
 
 -- LOT: the words for lots
 abbrev pub lot_words : List Entry
@@ -218,6 +245,7 @@ little_words = all_left_out (words (codes "the of in and said all entire section
 abbrev pub more_little_words : List Entry
 more_little_words = all_left_out (words (codes "public domain federal land lands fractional thereof except"))
     ++ all_left_out (words (codes "excepting for therefrom & fr. frl frl. frac. fract fract. fractl fractl."))
+    ++ all_left_out (words (codes "tbe tlie tne tho"))
 
 abbrev pub joining_words : List Entry
 joining_words =

@@ -38,6 +38,7 @@ numbered_words = words (codes "tract tr parcel no nos number bk book vol pg page
     ++ words (codes "mch patent pat cert certificate application contract agreement order list paragraph")
     ++ words (codes "roll code account acct allot report form waste dry irr grz past crop")
     ++ codes "pasture" ∷ []
+    ++ words (codes "district dist receipt sheet reel frame image volume ref tab")
 
 -- words for what a number before them counts, and for a meridian
 abbrev pub units : List (List ℕ)
@@ -132,6 +133,8 @@ column_words = words (codes "mer meridian twp township t rng range r sec section
     ++ words (codes "rge rg tp twn name remarks notes grantor grantee date book page inst status parcel pin")
     ++ words (codes "id use value mi int interest tr qq qqsec qsec instrument acreage owner")
     ++ words (codes "line code action act remark")
+    ++ words (codes "styp snr aliq lot q qtr trs str mtrs lease lessor lessee rec recorded instr bk pg")
+    ++ words (codes "doc file case serial acct account cnty nma royalty exp term record")
 
 -- the words of a section that is written elsewhere, or that was named before
 abbrev pub moved_section_words : List (List ℕ)
@@ -140,11 +143,15 @@ moved_section_words =
     ++ words
     (codes "sectlon sectoin seciton sectiou seclion seotion sectior tion numbered no nos said same all")
     ++ words (codes "both fractional in of the and to thru through")
+    ++ words (codes "scction seetion secfion sectian sectien soction")
 
 -- the words of a township and range that are
 abbrev pub moved_heading_words : List (List ℕ)
 moved_heading_words = words (codes "t tp twp twsp township r rg rge rng range n nr s e w north south east")
     ++ words (codes "west said same all in of the and numbered no")
+    ++ words (codes "twn townsbip townsliip towuship townahip townshlp townehip tewnship twonship")
+    ++ words (codes "twnship rauge rangc ronge")
+    ++ words (codes "situated situate located")
 
 -- the words of a number, and letters that scanning makes of digits
 abbrev pub number_words : List (List ℕ)
@@ -174,6 +181,7 @@ abbrev pub section_names : List (List ℕ)
 section_names =
     words (codes "sec secs sect sects section sections scc sce seo see ec ection sn secton sectlon")
     ++ words (codes "sectoin seciton sectiou seclion seotion sectior tion frstdivno frstdivlab")
+    ++ words (codes "scction seetion secfion sectian sectien soction")
 
 -- the words between the numbers of a list of sections, or before them
 abbrev pub list_words : List (List ℕ)

@@ -35,8 +35,14 @@ pub(crate) fn is_allowed(text: &[u8], change: &Change<'_>) -> bool
     let (start, end) = (change.start, change.end);
     let (seen, written) = (&text[start..end], change.written);
     match change.rule {
-        Rule::Half => is_half_mark(seen, written) && has_sides(before(text, start)),
-        Rule::Quarter => is_quarter_mark(seen, written) && has_corners(before(text, start)),
+        Rule::Half => {
+            is_half_mark(seen, written)
+                && (has_sides(before(text, start)) || has_worn_sides(before(text, start)))
+        }
+        Rule::Quarter => {
+            is_quarter_mark(seen, written)
+                && (has_corners(before(text, start)) || has_worn_corners(before(text, start)))
+        }
         Rule::Direction => is_direction(seen, written) && is_whole_word(text, start, end),
         Rule::Numeral => is_numeral(seen, written) && is_whole_numeral(seen, after(text, end)),
         Rule::Copied(from, to) => are_same(seen, b"") && is_copied(text, from, to, written),

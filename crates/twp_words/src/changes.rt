@@ -9,7 +9,11 @@ use crate::same::is_among;
 pub fn alters_land(word: &[u8]) -> bool {
     match word.len() {
         2 => is_among(word, 0x80000_00400000, "vs"),
-        3 => is_among(word, 0x151412_000410b6, "alt bad bal del err gap lla rej"),
+        3 => is_among(
+            word,
+            0x151612_000410b6,
+            "alt api bad bal del err gap lla rej",
+        ),
         4 => is_among(
             word,
             0x3dd038_0459b8da,

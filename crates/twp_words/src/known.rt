@@ -8,9 +8,11 @@ use crate::same::is_among;
 pub fn is_company(word: &[u8]) -> bool {
     match word.len() {
         2 => is_among(word, 0x10000_00001000, "lp"),
-        3 => is_among(word, 0x18_00001200, "inc llc ltd"),
-        4 => is_among(word, 0x10000_00000008, "corp"),
+        3 => is_among(word, 0x10018_00001200, "inc llc llp ltd"),
+        4 => is_among(word, 0x10008_00011008, "corp lllp pllc"),
         5 => is_among(word, 0x100000_00100000, "trust"),
+        7 => is_among(word, 0x2000000_00000008, "company"),
+        11 => is_among(word, 0x10000_00010000, "partnership"),
         _ => false,
     }
 }
@@ -25,52 +27,70 @@ pub fn is_known(word: &[u8]) -> bool {
         ),
         3 => is_among(
             word,
-            0x73df23a_027573fe,
-            "ada aol apo aum blm bpo cfs dle dry exp fee grz hbo hbp hbu inc int irr llc \
-             lse ltd mer min nma nra nri pat pls pvt rel res thx usa vir yrs",
+            0x73df2fa_0275f7fe,
+            "ada amt aol apo aum blm bpo cfs csu dle doc dry dtd due efd eff eoi exp fax \
+             fee grz hay hbo hbp hbu inc int irr joa llc lse ltd mer min mtg nma nra nri \
+             nso ofc oil pat per pls pvt rec reg rel res roy rpt thx usa val vir yrs",
         ),
         4 => is_among(
             word,
-            0x596330_0039e02a,
-            "aums case cash corp cult elev mgmt mins npri open orri page paid srhe term \
-             usfs",
+            0x25deb32_00bff37e,
+            "acct attn aums auth book case cash code coop corp crop cult date dept dist \
+             elev file heir inst levy lien loan memo mgmt mins npra npri open orri page \
+             paid quad rate recd srhe term unit usfs wife",
         ),
         5 => is_among(
             word,
-            0xd5bb0_009892ce,
-            "adams boise bonus clark filed final gross irrig latah lemhi owner scrip state \
-             taxes teton total waste",
+            0x9ddbb0_00dd93fe,
+            "adams boise bonus buyer cause clark class dated email filed final gross heirs \
+             idaho instr irrig issue latah lease lemhi owner phone price rents scrip state \
+             stips taxes teton title total value waste wheat widow",
         ),
         6 => is_among(
             word,
-            0x3c503a_0015943e,
-            "active annual blaine bureau canyon cassia closed custer desert elmore jerome \
-             lessee lessor office oneida owyhee patent payout public rental thanks",
+            0x23ed0ba_005df67e,
+            "active amount annual blaine bonded bureau canyon cassia closed consid county \
+             custer delinq deputy desert docket elmore energy factor fileno filing forest \
+             issued jerome leases lessee lessor market notary office oneida owyhee patent \
+             payout permit policy public rental report seller serial signed single status \
+             thanks timber vendee vendor vested",
         ),
         7 => is_among(
             word,
-            0x23068a0_000520cc,
-            "bannock bingham caribou fremont gooding grantee grazing madison minimum \
-             payette primary private receipt royalty",
+            0x23c78b2_009d33fe,
+            "account alfalfa auditor bankers banking bannock bingham caption caribou \
+             checked company contact decimal expires fremont gooding grantee grantor \
+             grazing husband invoice issuing lessees lessors madison minimum payette \
+             primary private receipt renewal royalty savings trustee widower witness",
         ),
         8 => is_among(
             word,
-            0x14403a_002d2032,
-            "assessed assignor district domestic duchesne entryman minidoka patentee \
-             register shoshone unfenced",
+            0x1c40ba_003da03a,
+            "assessed assessor assignor curative district domestic duchesne entryman \
+             expiring minidoka mortgage operator partners patentee prepared recorded \
+             recorder register reviewed runsheet shoshone trustees unfenced",
         ),
         9 => is_among(
             word,
-            0x1040a0_00012420,
-            "effective endowment jefferson mortgagee producing",
+            0x21c70b0_005de622,
+            "agreement appraisal appraised attention effective endowment insurance \
+             inventory jefferson mortgagee nominated operating operators petroleum \
+             producing protested purchaser renewable resources royalties suspended \
+             telephone valuation",
         ),
         10 => is_among(
             word,
-            0x144030_00082216,
-            "authorized bonneville delinquent irrigation management stockwater",
+            0x144030_000a2236,
+            "assessment authorized bonneville delinquent department expiration instrument \
+             irrigation management quadrangle stockwater",
         ),
-        11 => is_among(word, 0x4020_00040008, "competitive reclamation"),
+        11 => is_among(
+            word,
+            0x2004020_00040038,
+            "competitive cooperative delinquency exploration reclamation",
+        ),
         12 => is_among(word, 0x84000_00090000, "prescription stipulations"),
+        13 => is_among(word, 0x4000_00000008, "consideration"),
         14 => is_among(word, 0x20_00004000, "noncompetitive"),
         _ => false,
     }

@@ -9,10 +9,14 @@ pub fn is_of_label(word: &[u8]) -> bool {
         2 => is_among(word, 0x8000_00004000, "no"),
         3 => is_among(word, 0x900000_00040008, "cat row"),
         4 => is_among(word, 0x102020_00200248, "case file item unit"),
-        5 => is_among(word, 0x180020_0010100a, "allot areas class lease tract"),
+        5 => is_among(
+            word,
+            0x2180020_0018122a,
+            "allot areas class entry image lease sheet tract",
+        ),
         6 => is_among(word, 0x41000_00094000, "number parcel serial"),
-        7 => is_among(word, 0x100020_00010020, "exhibit pasture"),
-        8 => is_among(word, 0x2080000_00010008, "category premises"),
+        7 => is_among(word, 0x100020_00050020, "exhibit pasture receipt"),
+        8 => is_among(word, 0x2180000_00010018, "category district premises"),
         9 => is_among(word, 0x100000_00000002, "allotment"),
         _ => false,
     }
@@ -22,7 +26,7 @@ pub fn is_of_label(word: &[u8]) -> bool {
 pub fn is_of_tract(word: &[u8]) -> bool {
     match word.len() {
         2 => is_among(word, 0x40000_00100000, "tr"),
-        4 => is_among(word, 0x100000_00200000, "unit"),
+        4 => is_among(word, 0x102000_00200200, "item unit"),
         5 => is_among(word, 0x100000_00100000, "tract"),
         6 => is_among(word, 0x1000_00010000, "parcel"),
         _ => false,
@@ -35,8 +39,8 @@ pub fn is_of_other_land(word: &[u8]) -> bool {
         2 => is_among(word, 0x10c1000_00102000, "ms tl tr tx"),
         3 => is_among(
             word,
-            0x881006_000d310c,
-            "bla cos hes lla mss pcl ros row sub",
+            0x881206_000d310e,
+            "api bla cos hes lla mss pcl ros row sub",
         ),
         4 => is_among(word, 0x100010_00090020, "esmt plat subd"),
         5 => is_among(word, 0x100000_00100000, "tract"),
@@ -48,10 +52,17 @@ pub fn is_of_other_land(word: &[u8]) -> bool {
 /// Words for instruments and where they are recorded, with which such a label begins, too.
 pub fn is_instrument(word: &[u8]) -> bool {
     match word.len() {
-        2 => is_among(word, 0x890_00812004, "bk md pg wd"),
-        3 => is_among(word, 0x1010_00428000, "ogl qcd vol"),
-        4 => is_among(word, 0x100830_00010214, "book deed inst page"),
-        5 => is_among(word, 0x40000_00000200, "instr"),
+        2 => is_among(word, 0x898_00832004, "bk md pg qc wd"),
+        3 => is_among(
+            word,
+            0x1010d0_004ba086,
+            "aff bsd gwd mtg ogl pat qcd swd vol",
+        ),
+        4 => is_among(word, 0x104830_00090216, "asgn book deed inst page spwd"),
+        5 => is_among(word, 0x1c0000_00000212, "assgt deeds instr"),
+        6 => is_among(word, 0x100000_00010000, "patent"),
+        8 => is_among(word, 0x20_00002000, "mortgage"),
+        9 => is_among(word, 0x2000_00020000, "quitclaim"),
         10 => is_among(word, 0x100000_00000200, "instrument"),
         _ => false,
     }
@@ -71,37 +82,40 @@ pub fn is_of_covering(word: &[u8]) -> bool {
 /// The names of columns.
 pub fn is_column(word: &[u8]) -> bool {
     match word.len() {
-        1 => is_among(word, 0x1c0000_001c0000, "r s t"),
-        2 => is_among(word, 0x178290_001e6200, "id mi no nr qq rg st tp tr"),
+        1 => is_among(word, 0x1e0000_001e0000, "q r s t"),
+        2 => is_among(word, 0x178a90_001f6204, "bk id mi no nr pg qq rg st tp tr"),
         3 => is_among(
             word,
-            0x1540a8_003d7202,
-            "act int lot mer net pin rge rng sec snr twn twp use",
+            0x1d40aa_003f7232,
+            "act doc exp int lot mer net nma pin qtr rec rge rng sec snr str trs twn twp \
+             use",
         ),
         4 => is_among(
             word,
-            0x1a0868_001b721e,
-            "aliq book code date desc inst line lots mgmt name page qsec suff type",
+            0x21b2868_001b725e,
+            "acct aliq book case cnty code date desc file inst line lots mgmt mtrs name \
+             page qsec styp suff term type",
         ),
         5 => is_among(
             word,
-            0x1c1038_005ed0c0,
-            "field gross legal notes owner qqsec range state stype tract value",
+            0x1c1038_005ed2c0,
+            "field gross instr lease legal notes owner qqsec range state stype tract value",
         ),
         6 => is_among(
             word,
-            0x24c5820_000dc00a,
-            "action agency county number office parcel remark status subdiv survey",
+            0x24c5830_000dd00a,
+            "action agency county lessee lessor number office parcel record remark serial \
+             status subdiv survey",
         ),
         7 => is_among(
             word,
-            0x1c4020_000c0082,
-            "acreage aliquot grantee grantor remarks section surtype",
+            0x21c4020_000c0082,
+            "account acreage aliquot grantee grantor remarks royalty section surtype",
         ),
         8 => is_among(
             word,
-            0x194000_00102212,
-            "aliquots district interest meridian township",
+            0x194010_00142212,
+            "aliquots district interest meridian recorded township",
         ),
         10 => is_among(word, 0x100000_00000200, "instrument"),
         11 => is_among(word, 0x4000_00080010, "description subdivision"),
@@ -133,7 +147,13 @@ pub fn is_township_name(word: &[u8]) -> bool {
         2 => is_among(word, 0x10000_00100000, "tp"),
         3 => is_among(word, 0x14000_00100000, "twn twp"),
         4 => is_among(word, 0x10000_00100000, "twsp"),
-        8 => is_among(word, 0x10000_00100000, "township"),
+        7 => is_among(word, 0x10000_00100000, "twnship"),
+        8 => is_among(
+            word,
+            0x10000_00100000,
+            "tewnship townahip townehip townsbip township townshlp towuship twonship",
+        ),
+        9 => is_among(word, 0x10000_00100000, "townsliip"),
         _ => false,
     }
 }
@@ -144,7 +164,7 @@ pub fn is_range_name(word: &[u8]) -> bool {
         1 => is_among(word, 0x40000_00040000, "r"),
         2 => is_among(word, 0x80_00040000, "rg"),
         3 => is_among(word, 0xa0_00040000, "rge rng"),
-        5 => is_among(word, 0x20_00040000, "range"),
+        5 => is_among(word, 0x28_00040000, "rangc range rauge ronge"),
         _ => false,
     }
 }
@@ -155,8 +175,14 @@ pub fn is_township_word(word: &[u8]) -> bool {
         2 => is_among(word, 0x10080_00140000, "rg tp"),
         3 => is_among(word, 0x100a0_00140000, "rge rng twp"),
         4 => is_among(word, 0x10000_00100000, "twsp"),
-        5 => is_among(word, 0x20_00040000, "range"),
-        8 => is_among(word, 0x10000_00100000, "township"),
+        5 => is_among(word, 0x28_00040000, "rangc range rauge ronge"),
+        7 => is_among(word, 0x10000_00100000, "twnship"),
+        8 => is_among(
+            word,
+            0x10000_00100000,
+            "tewnship townahip townehip townsbip township townshlp towuship twonship",
+        ),
+        9 => is_among(word, 0x10000_00100000, "townsliip"),
         _ => false,
     }
 }

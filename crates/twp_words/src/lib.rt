@@ -10,6 +10,7 @@ mod figures;
 mod forms;
 mod known;
 mod labels;
+mod leads;
 mod meridians;
 mod numbers;
 mod parties;
@@ -36,6 +37,7 @@ pub use labels::{
     is_more, is_of_covering, is_of_domain, is_of_label, is_of_other_land, is_of_tract, is_of_water,
     is_range_name, is_township_name, is_township_word,
 };
+pub use leads::is_of_lead;
 pub use meridians::{
     are_meridian_letters, is_bare_meridian, is_before_meridian, is_meridian, is_meridian_of_two,
     is_state, is_state_of_two,

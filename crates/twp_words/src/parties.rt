@@ -26,6 +26,7 @@ pub fn is_owner(word: &[u8]) -> bool {
 /// Words that say of which kind acreage is.
 pub fn is_net_or_gross(word: &[u8]) -> bool {
     match word.len() {
+        2 => is_among(word, 0x40000_00000080, "gr"),
         3 => is_among(word, 0x100000_00004000, "net"),
         5 => is_among(word, 0x81000_00100080, "gross total"),
         6 => is_among(word, 0x10_00010000, "pooled"),
@@ -72,11 +73,12 @@ pub fn is_of_time(word: &[u8]) -> bool {
 pub fn begins_reference(word: &[u8]) -> bool {
     match word.len() {
         2 => is_among(word, 0x800_00000004, "bk"),
-        3 => is_among(word, 0x28_000c0000, "rec see"),
-        4 => is_among(word, 0x100800_00000204, "book inst"),
+        3 => is_among(word, 0x40028_000d0000, "per rec see"),
+        4 => is_among(word, 0x100810_00004204, "book inst need"),
+        5 => is_among(word, 0x80020_00104000, "needs title"),
         6 => is_among(word, 0x10_00000200, "issued"),
         7 => is_among(word, 0x80_00010000, "pending"),
-        8 => is_among(word, 0x10_00010002, "acquired patented"),
+        8 => is_among(word, 0x30_0001000a, "acquired curative patented"),
         9 => is_among(word, 0x1000_00000008, "custodial"),
         _ => false,
     }

@@ -7,12 +7,22 @@ use crate::same::is_among;
 pub fn begins_request(word: &[u8]) -> bool {
     match word.len() {
         1 => is_among(word, 0x200_00000200, "i"),
-        2 => is_among(word, 0x8220_00800110, "do hi we"),
-        3 => is_among(word, 0x208c000_00810108, "can hey pls who"),
-        4 => is_among(word, 0x2101010_00904000, "need they what will"),
-        5 => is_among(word, 0x80010_00801008, "could lands would"),
-        6 => is_among(word, 0x20_00010000, "please"),
+        2 => is_among(word, 0x2888220_00842350, "do fw he hi is my re we"),
+        3 => is_among(
+            word,
+            0x20cc230_008d815a,
+            "any are can did fwd fyi hey our pls run see she who",
+        ),
+        4 => is_among(
+            word,
+            0x2981030_00994090,
+            "does give need pull send show they want what will",
+        ),
+        5 => is_among(word, 0x80810_00801008, "check could lands wants would"),
+        6 => is_among(word, 0x80020_00110000, "please thanks"),
         7 => is_among(word, 0x80_00001000, "looking"),
+        8 => is_among(word, 0x10_00000002, "attached"),
+        9 => is_among(word, 0x80_00000040, "following"),
         _ => false,
     }
 }
@@ -21,42 +31,57 @@ pub fn begins_request(word: &[u8]) -> bool {
 pub fn is_of_request(word: &[u8]) -> bool {
     match word.len() {
         1 => is_among(word, 0x4000202_04000202, ": a i"),
-        2 => is_among(word, 0x2194020_00a0a206, "an at by is it me on up us we"),
+        2 => is_among(
+            word,
+            0x219c060_00bca306,
+            "an as at by he is it me my of on re so to up us we",
+        ),
         3 => is_among(
             word,
-            0x3c4020_021581ca,
-            "are can for get has own pls run the you",
+            0x2bc7834_021d95ce,
+            "add all any are ask buy can for get got had has her him his how job let our \
+             own per pls run see she the you",
         ),
         4 => is_among(
             word,
-            0x189830_0099d112,
-            "also docs have land look need owns pull send that this want",
+            0x29df930_02d9fdde,
+            "also back both call copy docs file find from gave give have hear help here \
+             just know land last list look made mail name need news note once owns plat \
+             pull sell send show soon take talk tell than that them then they this time \
+             told very want week when year",
         ),
         5 => is_among(
             word,
-            0x20c1830_00189018,
-            "check could deeds lands lease order still these title today",
+            0x29c19b0_00bbb0be,
+            "about asked below check could cover deeds email every going lands lease month \
+             offer order owner price quick quote start still thank there these thing think \
+             title today under until using where which while would write wrote",
         ),
         6 => is_among(
             word,
-            0x21800b0_000d304c,
-            "buying copies friday leased leases monday please record report status",
+            0x29c00b0_003db04c,
+            "bought buying chance client copies covers friday leased leases lessee lessor \
+             locate monday offers owners please record report review rights seeing status \
+             thanks trying update",
         ),
         7 => is_among(
             word,
-            0x2081090_009cb008,
-            "closing leasing mineral ordered records reports selling tuesday working",
+            0x21870b0_009db028,
+            "closing confirm current examine expires explain leasing mineral ordered \
+             prepare provide records reports request selling started tuesday working",
         ),
         8 => is_among(
             word,
-            0x2980000_00142000,
-            "minerals runsheet thursday tomorrow",
+            0x29800a0_0014e000,
+            "minerals nominate offering runsheet thursday tomorrow",
         ),
         9 => is_among(
             word,
-            0x2090080_00848050,
-            "documents following ownership runsheets wednesday",
+            0x2090090_02848050,
+            "documents following ownership regarding requested runsheets wednesday \
+             yesterday",
         ),
+        10 => is_among(word, 0x10_00000200, "interested"),
         _ => false,
     }
 }

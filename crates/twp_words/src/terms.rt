@@ -176,11 +176,16 @@ pub fn is_of_right(word: &[u8]) -> bool {
     match word.len() {
         3 => is_among(word, 0x185000_0000a280, "gas int min oil"),
         4 => is_among(word, 0x81000_00002008, "coal mins"),
-        5 => is_among(word, 0x140000_00848000, "other right water"),
-        6 => is_among(word, 0x80000_00040010, "depths rights"),
-        7 => is_among(word, 0x81000_00002000, "matters mineral"),
+        5 => is_among(
+            word,
+            0x1c0020_00949010,
+            "deeds lease other right taxes water",
+        ),
+        6 => is_among(word, 0x80000_00041010, "depths leases rights"),
+        7 => is_among(word, 0x81000_00042000, "matters mineral records"),
         8 => is_among(word, 0x180080_00002220, "existing interest minerals"),
-        9 => is_among(word, 0x80000_00000020, "easements"),
+        9 => is_among(word, 0x80000_00000230, "documents easements interests"),
+        11 => is_among(word, 0x80000_00000200, "instruments"),
         12 => is_among(word, 0x80000_00000200, "improvements"),
         13 => is_among(word, 0x80000_00000002, "appurtenances"),
         _ => false,
@@ -200,8 +205,8 @@ pub fn is_of_interest(word: &[u8]) -> bool {
         ),
         4 => is_among(
             word,
-            0x143070_001c114a,
-            "acre coal four from half land real said that",
+            0x143170_001c116a,
+            "acre coal each four from half land real said that",
         ),
         5 => is_among(
             word,

@@ -21,25 +21,35 @@ pub(crate) fn has_acreage_ends(seen: &[u8]) -> bool
 }
 
 /// The texts `acreage_fronts` of the specification.
-static ACREAGE_FRONTS: [[u8; 10]; 11] = [
-    *b"acres_____",
-    *b"acreage___",
-    *b"ac________",
-    *b"gross_____",
-    *b"net_______",
-    *b"total_____",
-    *b"containing",
-    *b"the area__",
-    *b"gr ac_____",
-    *b"gr. ac____",
-    *b"in all____",
+static ACREAGE_FRONTS: [[u8; 14]; 21] = [
+    *b"acres_________",
+    *b"acreage_______",
+    *b"ac____________",
+    *b"gross_________",
+    *b"net___________",
+    *b"total_________",
+    *b"containing____",
+    *b"the area______",
+    *b"gr ac_________",
+    *b"gr. ac________",
+    *b"in all________",
+    *b"case acres____",
+    *b"unit acres____",
+    *b"lease acres___",
+    *b"gis acres_____",
+    *b"calc acres____",
+    *b"legal acres___",
+    *b"leased acres__",
+    *b"parcel acres__",
+    *b"assessed acres",
+    *b"deeded acres__",
 ];
 
 /// Whether a text begins with one of them.
 pub(crate) fn has_acreage_fronts(seen: &[u8]) -> bool
     ensures { result ≡ begins_with_one seen.now acreage_fronts }
 {
-    begins_with_one(seen, 0x0010_428a, &ACREAGE_FRONTS)
+    begins_with_one(seen, 0x0031_529a, &ACREAGE_FRONTS)
 }
 
 /// The texts `parenthesis_ends` of the specification.
@@ -157,7 +167,7 @@ pub(crate) fn has_estates(seen: &[u8]) -> bool
 }
 
 /// The texts `title_fronts` of the specification.
-static TITLE_FRONTS: [[u8; 31]; 16] = [
+static TITLE_FRONTS: [[u8; 31]; 25] = [
     *b"e.o.___________________________",
     *b"w.d.___________________________",
     *b"point of diversion_____________",
@@ -174,6 +184,15 @@ static TITLE_FRONTS: [[u8; 31]; 16] = [
     *b"s-t-r__________________________",
     *b"w/min__________________________",
     *b"w/o min________________________",
+    *b"tax code_______________________",
+    *b"tax roll_______________________",
+    *b"tax district___________________",
+    *b"tax id_________________________",
+    *b"tax acct_______________________",
+    *b"tax account____________________",
+    *b"tax year_______________________",
+    *b"tax sale_______________________",
+    *b"tax cert_______________________",
 ];
 
 /// Whether a text begins with one of them.
@@ -217,20 +236,38 @@ pub(crate) fn has_number_fronts(seen: &[u8]) -> bool
 }
 
 /// The texts `interest_fronts` of the specification.
-static INTEREST_FRONTS: [[u8; 13]; 6] = [
+static INTEREST_FRONTS: [[u8; 13]; 24] = [
     *b"an und_______",
     *b"und__________",
     *b"one-half_____",
     *b"one half_____",
     *b"all the right",
     *b"all right____",
+    *b"decedent_____",
+    *b"the decedent_",
+    *b"grantor______",
+    *b"lessor_______",
+    *b"seller_______",
+    *b"his__________",
+    *b"her__________",
+    *b"their________",
+    *b"our__________",
+    *b"my___________",
+    *b"one-third____",
+    *b"one third____",
+    *b"one-fourth___",
+    *b"one fourth___",
+    *b"one quarter__",
+    *b"one-quarter__",
+    *b"a one________",
+    *b"an one_______",
 ];
 
 /// Whether a text begins with one of them.
 pub(crate) fn has_interest_fronts(seen: &[u8]) -> bool
     ensures { result ≡ begins_with_one seen.now interest_fronts }
 {
-    begins_with_one(seen, 0x0020_8002, &INTEREST_FRONTS)
+    begins_with_one(seen, 0x0038_b192, &INTEREST_FRONTS)
 }
 
 /// The texts `property_fronts` of the specification.

@@ -2,7 +2,7 @@
 ghost use Rattle.std.specs.Prelude.{◌≡◌};
 ghost use Rattle.twp_rules.specs.Edges.{ends_with_one};
 ghost use Rattle.twp_rules.specs.Endings.{corners, digits, heading_ends, section_again, section_ends, sides};
-ghost use Rattle.twp_rules.specs.Endings.{worn_section_ends};
+ghost use Rattle.twp_rules.specs.Endings.{worn_corners, worn_section_ends, worn_sides};
 
 use crate::rows::ends_with_one;
 use crate::same::ends_with;
@@ -41,6 +41,32 @@ pub(crate) fn has_corners(seen: &[u8]) -> bool
         || ends_with(seen, b"west")
         || ends_with(seen, b" e")
         || ends_with(seen, b" w")
+}
+
+/// The texts `worn_sides` of the specification.
+static WORN_SIDES: [[u8; 6]; 15] = [
+    *b"_nortb", *b"_soutb", *b"nortli", *b"soutli", *b"_norlh", *b"_soulh", *b"__eaet", *b"__eaat",
+    *b"__eust", *b"__weat", *b"__weet", *b"_sonth", *b"_uorth", *b"_nortn", *b"_soutn",
+];
+
+/// Whether a text ends with one of them.
+pub(crate) fn has_worn_sides(seen: &[u8]) -> bool
+    ensures { result ≡ ends_with_one seen.now worn_sides }
+{
+    ends_with_one(seen, 0x0010_4304, &WORN_SIDES)
+}
+
+/// The texts `worn_corners` of the specification.
+static WORN_CORNERS: [[u8; 4]; 15] = [
+    *b"cast", *b"easl", *b"easr", *b"easf", *b"eust", *b"eaat", *b"eaet", *b"wcst", *b"wesl",
+    *b"wesr", *b"wesf", *b"vest", *b"weat", *b"wect", *b"wert",
+];
+
+/// Whether a text ends with one of them.
+pub(crate) fn has_worn_corners(seen: &[u8]) -> bool
+    ensures { result ≡ ends_with_one seen.now worn_corners }
+{
+    ends_with_one(seen, 0x0014_1040, &WORN_CORNERS)
 }
 
 /// The texts `digits` of the specification.

@@ -23,7 +23,7 @@ pub(crate) fn is_in_headings(seen: &[u8], written: &[u8]) -> bool
 }
 
 /// The table `heading_words` of the specification.
-static HEADING_WORDS: [[u8; 14]; 17] = [
+static HEADING_WORDS: [[u8; 14]; 32] = [
     *b"township=T.___",
     *b"twp=T.________",
     *b"tp=T._________",
@@ -41,6 +41,21 @@ static HEADING_WORDS: [[u8; 14]; 17] = [
     *b"aliquot part=_",
     *b"twn=T.________",
     *b"no.=__________",
+    *b"townsbip=T.___",
+    *b"townsliip=T.__",
+    *b"towuship=T.___",
+    *b"townahip=T.___",
+    *b"townshlp=T.___",
+    *b"townehip=T.___",
+    *b"tewnship=T.___",
+    *b"twonship=T.___",
+    *b"twnship=T.____",
+    *b"rauge=R.______",
+    *b"rangc=R.______",
+    *b"ronge=R.______",
+    *b"situated=_____",
+    *b"situate=______",
+    *b"located=______",
 ];
 
 /// Whether this is a row of it: what it looks at, and what it writes.
@@ -50,9 +65,9 @@ pub(crate) fn is_in_heading_words(seen: &[u8], written: &[u8]) -> bool
     is_among(
         seen,
         written,
-        0x0015_c202,
-        0x20a9_d0c2,
-        0x2089_62a0,
+        0x001d_d202,
+        0x20a9_d2e2,
+        0x20b9_e2a8,
         &HEADING_WORDS,
     )
 }
@@ -94,7 +109,7 @@ pub(crate) fn is_in_section_words(seen: &[u8], written: &[u8]) -> bool
 }
 
 /// The table `worn_section_words` of the specification.
-static WORN_SECTION_WORDS: [[u8; 13]; 13] = [
+static WORN_SECTION_WORDS: [[u8; 13]; 19] = [
     *b"scc=sec______",
     *b"sce=sec______",
     *b"seo=sec______",
@@ -108,6 +123,12 @@ static WORN_SECTION_WORDS: [[u8; 13]; 13] = [
     *b"seotion=sec__",
     *b"sectior=sec__",
     *b"sec-\ntion=sec",
+    *b"scction=sec__",
+    *b"seetion=sec__",
+    *b"secfion=sec__",
+    *b"sectian=sec__",
+    *b"sectien=sec__",
+    *b"soction=sec__",
 ];
 
 /// Whether this is a row of it: what it looks at, and what it writes.
@@ -118,7 +139,7 @@ pub(crate) fn is_in_worn_section_words(seen: &[u8], written: &[u8]) -> bool
         seen,
         written,
         0x0008_0000,
-        0x0000_0028,
+        0x0000_8028,
         0x0000_8028,
         &WORN_SECTION_WORDS,
     )

@@ -6,7 +6,7 @@ ghost use Rattle.twp_rules.specs.Tables.{exceptions, joining_words, little_words
 use crate::rows::is_among;
 
 /// The table `exceptions` of the specification.
-static EXCEPTIONS: [[u8; 18]; 14] = [
+static EXCEPTIONS: [[u8; 18]; 15] = [
     *b"less= except _____",
     *b"except= except ___",
     *b"excepting= except ",
@@ -21,6 +21,7 @@ static EXCEPTIONS: [[u8; 18]; 14] = [
     *b"ex= except _______",
     *b"ls= except _______",
     *b"excl= except _____",
+    *b"l/e= except ______",
 ];
 
 /// Whether this is a row of it: what it looks at, and what it writes.
@@ -31,7 +32,7 @@ pub(crate) fn is_in_exceptions(seen: &[u8], written: &[u8]) -> bool
         seen,
         written,
         0x0088_3024,
-        0x0128_0262,
+        0x0128_8262,
         0x2058_4028,
         &EXCEPTIONS,
     )
@@ -67,7 +68,7 @@ pub(crate) fn is_in_little_words(seen: &[u8], written: &[u8]) -> bool
 }
 
 /// The table `more_little_words` of the specification.
-static MORE_LITTLE_WORDS: [[u8; 11]; 20] = [
+static MORE_LITTLE_WORDS: [[u8; 11]; 24] = [
     *b"public=____",
     *b"domain=____",
     *b"federal=___",
@@ -88,6 +89,10 @@ static MORE_LITTLE_WORDS: [[u8; 11]; 20] = [
     *b"fract.=____",
     *b"fractl=____",
     *b"fractl.=___",
+    *b"tbe=_______",
+    *b"tlie=______",
+    *b"tne=_______",
+    *b"tho=_______",
 ];
 
 /// Whether this is a row of it: what it looks at, and what it writes.
@@ -98,8 +103,8 @@ pub(crate) fn is_in_more_little_words(seen: &[u8], written: &[u8]) -> bool
         seen,
         written,
         0x0011_1070,
-        0x2124_8122,
-        0x2004_703e,
+        0x2124_d126,
+        0x2004_f23e,
         &MORE_LITTLE_WORDS,
     )
 }

@@ -8,7 +8,7 @@ ghost use Rattle.twp_rules.specs.Words.{numeral_words};
 use crate::rows::is_one_of;
 
 /// The texts `numbered_words` of the specification.
-static NUMBERED_WORDS: [[u8; 11]; 86] = [
+static NUMBERED_WORDS: [[u8; 11]; 96] = [
     *b"tract______",
     *b"tr_________",
     *b"parcel_____",
@@ -95,13 +95,23 @@ static NUMBERED_WORDS: [[u8; 11]; 86] = [
     *b"past_______",
     *b"crop_______",
     *b"pasture____",
+    *b"district___",
+    *b"dist_______",
+    *b"receipt____",
+    *b"sheet______",
+    *b"reel_______",
+    *b"frame______",
+    *b"image______",
+    *b"volume_____",
+    *b"ref________",
+    *b"tab________",
 ];
 
 /// Whether a word is one of them.
 pub(crate) fn is_in_numbered_words(word: &[u8]) -> bool
     ensures { result ≡ is_one_of word.now numbered_words }
 {
-    is_one_of(word, 0x00fd_f6fe, 0x81bd_daba, 0x86dd_f3be, &NUMBERED_WORDS)
+    is_one_of(word, 0x00fd_f6fe, 0x81bd_fbba, 0x86dd_f3fe, &NUMBERED_WORDS)
 }
 
 /// The texts `units` of the specification.

@@ -9,7 +9,7 @@ use crate::rows::is_one_of;
 use crate::same::is_text;
 
 /// The texts `column_words` of the specification.
-static COLUMN_WORDS: [[u8; 11]; 71] = [
+static COLUMN_WORDS: [[u8; 11]; 100] = [
     *b"mer________",
     *b"meridian___",
     *b"twp________",
@@ -81,17 +81,46 @@ static COLUMN_WORDS: [[u8; 11]; 71] = [
     *b"action_____",
     *b"act________",
     *b"remark_____",
+    *b"styp_______",
+    *b"snr________",
+    *b"aliq_______",
+    *b"lot________",
+    *b"q__________",
+    *b"qtr________",
+    *b"trs________",
+    *b"str________",
+    *b"mtrs_______",
+    *b"lease______",
+    *b"lessor_____",
+    *b"lessee_____",
+    *b"rec________",
+    *b"recorded___",
+    *b"instr______",
+    *b"bk_________",
+    *b"pg_________",
+    *b"doc________",
+    *b"file_______",
+    *b"case_______",
+    *b"serial_____",
+    *b"acct_______",
+    *b"account____",
+    *b"cnty_______",
+    *b"nma________",
+    *b"royalty____",
+    *b"exp________",
+    *b"term_______",
+    *b"record_____",
 ];
 
 /// Whether a word is one of them.
 pub(crate) fn is_in_column_words(word: &[u8]) -> bool
     ensures { result ≡ is_one_of word.now column_words }
 {
-    is_one_of(word, 0x007f_f2de, 0x82bf_d2fa, 0x82bd_f3fe, &COLUMN_WORDS)
+    is_one_of(word, 0x007f_f2fe, 0x83bf_fafa, 0x82bd_f3fe, &COLUMN_WORDS)
 }
 
 /// The texts `moved_section_words` of the specification.
-static MOVED_SECTION_WORDS: [[u8; 10]; 38] = [
+static MOVED_SECTION_WORDS: [[u8; 10]; 44] = [
     *b"sec_______",
     *b"secs______",
     *b"section___",
@@ -130,6 +159,12 @@ static MOVED_SECTION_WORDS: [[u8; 10]; 38] = [
     *b"to________",
     *b"thru______",
     *b"through___",
+    *b"scction___",
+    *b"seetion___",
+    *b"secfion___",
+    *b"sectian___",
+    *b"sectien___",
+    *b"soction___",
 ];
 
 /// Whether a word is one of them.
@@ -146,35 +181,51 @@ pub(crate) fn is_in_moved_section_words(word: &[u8]) -> bool
 }
 
 /// The texts `moved_heading_words` of the specification.
-static MOVED_HEADING_WORDS: [[u8; 8]; 28] = [
-    *b"t_______",
-    *b"tp______",
-    *b"twp_____",
-    *b"twsp____",
-    *b"township",
-    *b"r_______",
-    *b"rg______",
-    *b"rge_____",
-    *b"rng_____",
-    *b"range___",
-    *b"n_______",
-    *b"nr______",
-    *b"s_______",
-    *b"e_______",
-    *b"w_______",
-    *b"north___",
-    *b"south___",
-    *b"east____",
-    *b"west____",
-    *b"said____",
-    *b"same____",
-    *b"all_____",
-    *b"in______",
-    *b"of______",
-    *b"the_____",
-    *b"and_____",
-    *b"numbered",
-    *b"no______",
+static MOVED_HEADING_WORDS: [[u8; 9]; 44] = [
+    *b"t________",
+    *b"tp_______",
+    *b"twp______",
+    *b"twsp_____",
+    *b"township_",
+    *b"r________",
+    *b"rg_______",
+    *b"rge______",
+    *b"rng______",
+    *b"range____",
+    *b"n________",
+    *b"nr_______",
+    *b"s________",
+    *b"e________",
+    *b"w________",
+    *b"north____",
+    *b"south____",
+    *b"east_____",
+    *b"west_____",
+    *b"said_____",
+    *b"same_____",
+    *b"all______",
+    *b"in_______",
+    *b"of_______",
+    *b"the______",
+    *b"and______",
+    *b"numbered_",
+    *b"no_______",
+    *b"twn______",
+    *b"townsbip_",
+    *b"townsliip",
+    *b"towuship_",
+    *b"townahip_",
+    *b"townshlp_",
+    *b"townehip_",
+    *b"tewnship_",
+    *b"twonship_",
+    *b"twnship__",
+    *b"rauge____",
+    *b"rangc____",
+    *b"ronge____",
+    *b"situated_",
+    *b"situate__",
+    *b"located__",
 ];
 
 /// Whether a word is one of them.
@@ -183,15 +234,15 @@ pub(crate) fn is_in_moved_heading_words(word: &[u8]) -> bool
 {
     is_one_of(
         word,
-        0x009c_c222,
-        0x80a5_d1e2,
-        0x80ad_72b0,
+        0x009c_d222,
+        0x80a5_d3e2,
+        0x80bd_f2b8,
         &MOVED_HEADING_WORDS,
     )
 }
 
 /// The texts `section_names` of the specification.
-static SECTION_NAMES: [[u8; 10]; 24] = [
+static SECTION_NAMES: [[u8; 10]; 30] = [
     *b"sec_______",
     *b"secs______",
     *b"sect______",
@@ -216,13 +267,19 @@ static SECTION_NAMES: [[u8; 10]; 24] = [
     *b"tion______",
     *b"frstdivno_",
     *b"frstdivlab",
+    *b"scction___",
+    *b"seetion___",
+    *b"secfion___",
+    *b"sectian___",
+    *b"sectien___",
+    *b"soction___",
 ];
 
 /// Whether a word is one of them.
 pub(crate) fn is_in_section_names(word: &[u8]) -> bool
     ensures { result ≡ is_one_of word.now section_names }
 {
-    is_one_of(word, 0x0018_0060, 0x0004_4228, 0x8018_8028, &SECTION_NAMES)
+    is_one_of(word, 0x0018_0060, 0x0004_c228, 0x8018_8028, &SECTION_NAMES)
 }
 
 /// The texts `list_words` of the specification.

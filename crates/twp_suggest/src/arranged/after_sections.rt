@@ -67,6 +67,9 @@ impl GroupsSoFar {
     }
 }
 
+/// The most pieces of a label and a township before a section.
+const ITEM_MOST: usize = 16;
+
 impl<'a> Plan<'a> {
     /// Places land after its sections.
     pub(crate) fn place_land_after(&mut self, list: &mut Vec<Placed>) {
@@ -202,11 +205,28 @@ impl<'a> Plan<'a> {
         let pieces = &self.draft.pieces;
         let first = exception.first;
         let is_item = pieces.follows(section.first, b";")
-            || pieces.has_before(section.first, b'\n');
+            || pieces.has_before(section.first, b'\n')
+            || self.is_after_label_of_item(section.first);
         pieces.follows(first, b";")
             || (pieces.follows(first, b",") && !is_item)
             || matches!(pieces.kind_before(first), Some(Kind::Stop))
             || pieces.has_before(first, b'\n')
+    }
+
+    /// Whether the label of a tract, a township, or both, begin a line or follow a semicolon, and end before an index, as in
+    /// `Tract 2: T2N R3W, Section 17`.
+    fn is_after_label_of_item(&self, index: usize) -> bool {
+        let pieces = &self.draft.pieces;
+        for count in 2..ITEM_MOST {
+            let Some(first) = index.checked_sub(count) else {
+                return false;
+            };
+            if pieces.has_before(first, b'\n') || pieces.follows(first, b";") {
+                let end = pieces.end_of_tract(first).unwrap_or(first);
+                return end == index || pieces.begins_tier(end);
+            }
+        }
+        false
     }
 
     /// Whether it is sure which land a group has: several sections have none, or all of it is said to be

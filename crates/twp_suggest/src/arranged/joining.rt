@@ -217,7 +217,12 @@ impl<'a> Plan<'a> {
             if self.is_edge_of_cell(index) && self.are_whole_cells(before, after, left_out) {
                 continue;
             }
-            if !(pieces.is(index, b"&")
+            // A period before a comma is of an abbreviation, or a slip.
+            let is_stop = pieces.is(index, b".")
+                && pieces.is(plus(index, 1), b",")
+                && plus(index, 1) < after.first;
+            if !(is_stop
+                || pieces.is(index, b"&")
                 || pieces.is(index, b"+")
                 || pieces.is(index, b",")
                 || pieces.is(index, b";"))
