@@ -4,7 +4,7 @@
 /// The most bytes of such words.
 pub(crate) const WORDS_MOST: usize = 51;
 
-/// Words before land, in lowercase, filled up with `_`.
+/// Words before land, in lowercase, sorted by their first letter, and filled up with `_`.
 pub(crate) static WORDS_BEFORE: [[u8; WORDS_MOST]; 203] = [
     *b"association placer_________________________________",
     *b"all minerals under_________________________________",
@@ -217,7 +217,7 @@ pub(crate) static WORDS_BEFORE_OF_LETTERS: [u8; 27] = [
     194, 202, 202, 203, 203,
 ];
 
-/// Words after land, in lowercase, filled up with `_`.
+/// Words after land, in lowercase, sorted by their first letter, and filled up with `_`.
 pub(crate) static WORDS_AFTER: [[u8; WORDS_MOST]; 122] = [
     *b"all rt&i___________________________________________",
     *b"all right, title and interest______________________",
