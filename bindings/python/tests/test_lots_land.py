@@ -231,6 +231,11 @@ class Descriptions(RefusalCase):
         self.assertEqual(lake().notes("sec. 14, lots 1 to 3."), [])
         note, = lake().notes("sec. 14, SE1/4 SW1/4.")
         self.assertTrue(note.sentence.startswith("SE1/4 SW1/4 is read as one part, the SE1/4 of the SW1/4"), note)
+        self.assertNotIn("acres", note.sentence)
+        # With the standard lots, the acreage is nominal: the table has another one for lot 1.
+        note, = Lots.of_figures(WHERE, {(5, 1): "40.45"}).notes("sec. 5, lot 1 and 3")
+        self.assertIn("acres", note.sentence)
+        self.assertNotIn("40.45", note.sentence)
 
     def test_readings(self):
         reading, = lake().suggest("Sec. 14: Lots 1, 2")
