@@ -107,6 +107,7 @@ class LotsAnswering(LotsReporting, LotsDrawing, Describing):
         """Return the exact area of the land described, or of a `Land`, in acres. `acres` returns it rounded."""
         area = _library.Fraction()
         if isinstance(description, Land):
+            self._check_lots(description)
             answer = _library.lots_land_area(byref(self._parts), byref(description._parts), byref(area))
         else:
             given = encoded(description)
