@@ -65,7 +65,7 @@ not_platted notes refusal plat (inr is) are =
     let same : is.notes ≡ are.notes = one_notes notes is.notes are.notes is.notes_are are.notes_are in
     let both : made plat ≡ unmade is.fault =
     plats.one_answer are.notes (Ok plat) (Err is.fault) are.plat_is
-    (subst (λ n. plat_faults.IsFirstFault n is.fault) same is.first) in
+    (subst (λ n. plat_faults.IsFirstPlatFault n is.fault) same is.first) in
     cc both
 
 -- bytes that are not a description of land describe none
@@ -94,7 +94,7 @@ one_plat_refusal notes r r' (inr is) (inr is') =
     let same : is.notes ≡ is'.notes = one_notes notes is.notes is'.notes is.notes_are is'.notes_are in
     let both : unmade is.fault ≡ unmade is'.fault =
     plats.one_answer is'.notes (Err is.fault) (Err is'.fault)
-    (subst (λ n. plat_faults.IsFirstFault n is.fault) same is.first) is'.first in
+    (subst (λ n. plat_faults.IsFirstPlatFault n is.fault) same is.first) is'.first in
     let fault : is.fault ≡ is'.fault = cc both in
     let refusals : Some r ≡ Some r' = sym is.refusal_is ∙ rw fault is'.refusal_is in
     cc refusals

@@ -48,7 +48,7 @@ pub record IsLandOnPlat (notes description : List ℕ) (plat : TownshipPlat)
 -- the bytes are refused as notes, for their first fault
 pub record AreRefused (bytes : List ℕ) (refusal : Refusal) : Type 0 where
   pub fault : NotesFault
-  pub first : notes_faults.IsFirstFault bytes fault
+  pub first : notes_faults.IsFirstNotesFault bytes fault
   pub refusal_is : notes_faults.refusal_of fault ≡ Some refusal
 
 -- the bytes are notes that make no plat, for their first fault
@@ -56,7 +56,7 @@ pub record MakeNoPlat (bytes : List ℕ) (refusal : Refusal) : Type 0 where
   pub notes : FieldNotes
   pub notes_are : AreNotes bytes notes
   pub fault : PlatFault
-  pub first : plat_faults.IsFirstFault notes fault
+  pub first : plat_faults.IsFirstPlatFault notes fault
   pub refusal_is : plat_faults.refusal_of fault ≡ Some refusal
 
 -- the bytes cannot be read as items, for their first fault

@@ -40,21 +40,21 @@ held (Some some) refusal Held is held_if = held_if
 
 -- notes that are refused make no plat
 pub notes_refused : (stopped : SearchStop) (bytes : List ℕ) (fault : NotesFault)
-    → IfSome (notes_faults.refusal_of fault) (λ _. notes_faults.IsFirstFault bytes fault)
+    → IfSome (notes_faults.refusal_of fault) (λ _. notes_faults.IsFirstNotesFault bytes fault)
     → IfFound stopped (λ found. notes_faults.refusal_of fault ≡ Some found)
     → IfFound stopped (IsNoPlat bytes)
 notes_refused (stop.Found finding) bytes fault first is =
     inl (record {
       fault = fault;
       first = held (notes_faults.refusal_of fault) finding.refusal
-          (notes_faults.IsFirstFault bytes fault) is first;
+          (notes_faults.IsFirstNotesFault bytes fault) is first;
       refusal_is = is;
     })
 notes_refused stop.Memory bytes fault first is = tt
 
 -- notes whose lines are out of their limits make no plat
 pub lines_refused : (stopped : SearchStop) (bytes : List ℕ) (notes : FieldNotes) (fault : PlatFault)
-    → AreNotes bytes notes → plat_faults.IsFirstFault notes fault
+    → AreNotes bytes notes → plat_faults.IsFirstPlatFault notes fault
     → IfFound stopped (λ found. plat_faults.refusal_of fault ≡ Some found)
     → IfFound stopped (IsNoPlat bytes)
 lines_refused (stop.Found finding) bytes notes fault are first is =

@@ -11,7 +11,7 @@ use Rattle.twp_plat.specs.Closing.{CLOSING_LEAST, CLOSING_MOST, last_quarter, Is
 use Rattle.twp_plat.specs.Closing.{IsClosingQuarter}
 use Rattle.twp_plat.specs.Plats.{TownshipPlat, closing_quarter_of, IsPlat, IsPlatOf}
 use Rattle.twp_plat.specs.Plats.{IsQuarterOnPlat}
-use Rattle.twp_plat.specs.PlatFaults.{place_of, half_of, HasLineFault, IsFrom, IsFirstFault}
+use Rattle.twp_plat.specs.PlatFaults.{place_of, half_of, HasLineFault, IsFrom, IsFirstPlatFault}
 use Rattle.twp_plat.specs.PlatFaults.{AnswersPlat}
 use Rattle.twp_plat.specs.Pieces.{piece, IsPieceArea}
 use Rattle.twp_plat.specs.declared.fault.HalfMile.TheVariants as half
@@ -119,7 +119,8 @@ same_spot f f' (inl ahead) (inr same) = absurd (omega (arith, same.0))
 same_spot f f' (inr same) (inl after) = absurd (omega (arith, same.0))
 same_spot f f' (inr same) (inr same') = (same.0, omega (arith, same.1, same'.1))
 
-one_first_fault : (notes : FieldNotes) (f f' : PlatFault) → IsFirstFault notes f → IsFirstFault notes f'
+one_first_fault : (notes : FieldNotes) (f f' : PlatFault) → IsFirstPlatFault notes f
+    → IsFirstPlatFault notes f'
     → f ≡ f'
 one_first_fault notes f f' is is' =
     let spot = same_spot f f' (is.first f' is'.is) (is'.first f is.is) in
@@ -128,7 +129,7 @@ one_first_fault notes f f' is is' =
 
 -- notes that make a plat have no fault
 no_fault : (notes : FieldNotes) (plat : TownshipPlat) (f : PlatFault) → IsPlatOf notes plat
-    → IsFirstFault notes f → ⊥
+    → IsFirstPlatFault notes f → ⊥
 no_fault notes plat f is first =
     no_line_fault (place_of f) (returned_of notes (place_of f)) f (is.makes (place_of f) first.is.0)
     first.is.1

@@ -117,7 +117,7 @@ IsFrom stage place number fault =
     ⊎ ((stage ≡ stage_of fault) × (place ≡ place_of fault) × (number ≤ number_of fault))
 
 -- the fault is present, and no fault that precedes it is
-pub record IsFirstFault (bytes : List ℕ) (fault : LotsFault) : Type 0 where
+pub record IsFirstLotsFault (bytes : List ℕ) (fault : LotsFault) : Type 0 where
   pub is : HasFault bytes fault
   pub first : (other : LotsFault) → HasFault bytes other
       → IsFrom (stage_of fault) (place_of fault) (number_of fault) other
@@ -125,4 +125,4 @@ pub record IsFirstFault (bytes : List ℕ) (fault : LotsFault) : Type 0 where
 -- the lot table in the bytes, or their first fault
 abbrev pub AnswersLots : List ℕ → Result LotTable LotsFault → Type 0
 AnswersLots bytes (Ok table) = AreLots bytes table
-AnswersLots bytes (Err fault) = IfSome (refusal_of fault) (λ _. IsFirstFault bytes fault)
+AnswersLots bytes (Err fault) = IfSome (refusal_of fault) (λ _. IsFirstLotsFault bytes fault)
