@@ -13,7 +13,7 @@ use Rattle.twp_plat.specs.LotRecords.{LOTS_TEXT_MOST, LOT_FIELDS, lots_heading, 
 use Rattle.twp_plat.specs.LotRecords.{NamesLot, IsRowNumber}
 use Rattle.twp_plat.specs.LandRecords.{land_heading}
 use Rattle.twp_plat.specs.LandFaults.{HasLandFault}
-use Rattle.twp_plat.specs.LotTexts.{AreLots}
+use Rattle.twp_plat.specs.LotTexts.{IsLotTable}
 use Rattle.twp_plat.specs.declared.lots.fault.LotsFault.{LotsFault}
 use Rattle.twp_plat.specs.declared.lots.fault.LotsFault.TheVariants as fault
 
@@ -124,5 +124,5 @@ pub record IsFirstLotsFault (bytes : List ℕ) (fault : LotsFault) : Type 0 wher
 
 -- the lot table in the bytes, or their first fault
 abbrev pub AnswersLots : List ℕ → Result LotTable LotsFault → Type 0
-AnswersLots bytes (Ok table) = AreLots bytes table
+AnswersLots bytes (Ok table) = IsLotTable bytes table
 AnswersLots bytes (Err fault) = IfSome (refusal_of fault) (λ _. IsFirstLotsFault bytes fault)

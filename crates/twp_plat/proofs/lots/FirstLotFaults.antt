@@ -12,7 +12,7 @@ use Rattle.twp_plat.specs.LotTables.{FIGURE_MOST, IsLotNumber, lot_index}
 use Rattle.twp_plat.specs.LotTables.{standard_figure}
 use Rattle.twp_plat.specs.declared.lots.returned.ReturnedLots.{ReturnedLots}
 use Rattle.twp_plat.specs.LotRecords.{LOT_FIELDS, lots_heading, HasNoAcres, NamesLot, IsRowNumber, IsLotNamed}
-use Rattle.twp_plat.specs.LotTexts.{AreLots}
+use Rattle.twp_plat.specs.LotTexts.{IsLotTable}
 use Rattle.twp_plat.specs.LotsFaults.{NamesNoLot, HasLotFault, IsLotRepeated, IsFrom}
 use Rattle.twp_plat.specs.LotsFaults.{IsFirstLotsFault, refusal_of}
 use Rattle.twp_plat.specs.steps.LotEntries.{entry_of, IsEntered, IsLotNamedBy, AreEntered}
@@ -213,7 +213,7 @@ named_of records rows figures section lot are entered range number some =
 -- if all records were entered, they are a lot table
 pub lots_of_entries : (bytes : List ℕ) (rows : List Fields) (lots : ReturnedLots)
     (after : AreAfter bytes lots_heading rows) → AreStandardLots rows lots
-    → AreLots bytes (record { township = after.township; date = after.date; lots = lots })
+    → IsLotTable bytes (record { township = after.township; date = after.date; lots = lots })
 lots_of_entries bytes rows lots after are = record {
   size = after.size;
   records_are = inl (record {

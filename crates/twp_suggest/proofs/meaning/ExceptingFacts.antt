@@ -6,7 +6,8 @@ use Rattle.std.proofs.lemmas.List.{append-nil, append_assoc, flat_map_more, leng
 use Rattle.std.proofs.lemmas.List.{length-take}
 use Rattle.std.proofs.lemmas.List.Elements.{All-append, All-cons, All-nil}
 use Rattle.twp_suggest.specs.Excepting.{Division, HasNoExceptBefore, HasNoSemicolon, IsDivided, IsDivision}
-use Rattle.twp_suggest.specs.Excepting.{IsSplit, all_of, all_taken, alone, blank, except, kept, mark_after}
+use Rattle.twp_suggest.specs.Excepting.{AreAroundExcept, all_of, all_taken, alone, blank, except, kept}
+use Rattle.twp_suggest.specs.Excepting.{mark_after}
 use Rattle.twp_suggest.specs.Excepting.{semicolon, taken, without, written}
 use Rattle.twp_suggest.specs.steps.ExceptingSteps.{IsAdded}
 
@@ -144,7 +145,7 @@ land_added text mark whole further excepted others none first kept_is taken_is =
 }
 
 pub exception_added : (text : List ℕ) (mark : ℕ) (whole further excepted others land less : List ℕ)
-    → HasNoSemicolon text → IsSplit text land less → further ≡ whole ++ kept (without land less)
+    → HasNoSemicolon text → AreAroundExcept text land less → further ≡ whole ++ kept (without land less)
     → others ≡ excepted ++ taken mark (without land less)
     → IsAdded text mark semicolon whole further excepted others
 exception_added text mark whole further excepted others land less none split kept_is taken_is = record {

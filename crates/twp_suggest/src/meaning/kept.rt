@@ -1,7 +1,7 @@
 //! What a changed text keeps, and what it takes away, if it excepts land: its first exception, and its divisions.
 ghost use Rattle.std.specs.Prelude.{◌≡◌, ◌≢◌, ◌≤◌, ◌<◌, ◌++◌, ◌∷◌, [], ℕ, IfOk, IfSome, MatchBool, MatchOption, OnOk};
 ghost use Rattle.std.specs.Prelude.{drop, length, slice_index, take};
-ghost use Rattle.twp_suggest.specs.Excepting.{HasNoExceptBefore, HasNoSemicolon, IsDivided, IsSplit, alone, blanks};
+ghost use Rattle.twp_suggest.specs.Excepting.{HasNoExceptBefore, HasNoSemicolon, IsDivided, AreAroundExcept, alone, blanks};
 ghost use Rattle.twp_suggest.specs.Excepting.{except, kept, semicolon, taken, without};
 ghost use Rattle.twp_suggest.specs.steps.ExceptingSteps.{IsAdded};
 
@@ -177,7 +177,7 @@ fn before_semicolon(text: &[u8]) -> usize
 /// The texts before the first `except` and after it.
 pub(crate) fn around_except(text: &[u8]) -> Option<Excepting<'_>>
     ensures { MatchOption result (HasNoExceptBefore text.now (length text.now))
-        (λ parts. IsSplit text.now parts.whole.now parts.excepted.now) }
+        (λ parts. AreAroundExcept text.now parts.whole.now parts.excepted.now) }
 {
     for at in 0..text.len() {
         if let Some(parts) = split_at_except(text, at) {

@@ -7,7 +7,7 @@ ghost use Rattle.twp_suggest.specs.Descriptions.{AreItemsOf, AreLotsNamed, IsAcc
 ghost use Rattle.twp_suggest.specs.Descriptions.{IsNoException, IsOfDivisions, IsRemainder, NamesTownship};
 ghost use Rattle.twp_grammar.specs.declared.item.Item.{Item as Named};
 ghost use Rattle.twp_suggest.specs.Descriptions.{as_written};
-ghost use Rattle.twp_suggest.specs.Excepting.{HasNoSemicolon, IsParted, IsSplit};
+ghost use Rattle.twp_suggest.specs.Excepting.{HasNoSemicolon, IsParted, AreAroundExcept};
 ghost use Rattle.twp_suggest.specs.Descriptions.{without_first_line};
 
 use crate::meaning::kept::{EXCEPT, Excepting, around_except, divide, has_semicolon};
@@ -207,7 +207,7 @@ fn of_last<P: Lotting>(
     township: Township,
     lots: &P,
 ) -> Result<Wording, Unread>
-    requires split { IsSplit made.now parts.whole.now parts.excepted.now }
+    requires split { AreAroundExcept made.now parts.whole.now parts.excepted.now }
     requires read { IsReadAs parts.whole.now description }
     requires only { (items : List Named) → IsReadAs parts.whole.now items → description ≡ items }
     ensures described { IfOk result (λ found.
@@ -237,7 +237,7 @@ fn of_each<P: Lotting>(
     township: Township,
     lots: &P,
 ) -> Result<Wording, Unread>
-    requires split { IsSplit made.now _parts.whole.now _parts.excepted.now }
+    requires split { AreAroundExcept made.now _parts.whole.now _parts.excepted.now }
     requires more { ¬ HasNoSemicolon _parts.excepted.now }
     requires none { IsNoException (lotting (P.layout lots.now)) township
         _parts.whole.now _parts.excepted.now }
