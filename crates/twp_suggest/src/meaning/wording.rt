@@ -5,7 +5,7 @@ ghost use Rattle.twp_grid.specs.Lands.{ContainsAll, SamePlaces, lotting};
 ghost use Rattle.twp_grammar.specs.Sentences.{IsReadAs};
 ghost use Rattle.twp_suggest.specs.Descriptions.{AreItemsOf, AreLotsNamed, IsAccepted, IsDescribed};
 ghost use Rattle.twp_suggest.specs.Descriptions.{IsNoException, IsOfDivisions, IsRemainder, NamesTownship};
-ghost use Rattle.twp_grammar.specs.declared.item.Item.{Item as Named};
+ghost use Rattle.twp_grammar.specs.declared.item.Item.{Item as PhraseKind};
 ghost use Rattle.twp_suggest.specs.Descriptions.{as_written};
 ghost use Rattle.twp_suggest.specs.Excepting.{HasNoSemicolon, IsParted, AreAroundExcept};
 ghost use Rattle.twp_suggest.specs.Descriptions.{without_first_line};
@@ -209,7 +209,7 @@ fn of_last<P: Lotting>(
 ) -> Result<Wording, Unread>
     requires split { AreAroundExcept made.now parts.whole.now parts.excepted.now }
     requires read { IsReadAs parts.whole.now description }
-    requires only { (items : List Named) → IsReadAs parts.whole.now items → description ≡ items }
+    requires only { (items : List PhraseKind) → IsReadAs parts.whole.now items → description ≡ items }
     ensures described { IfOk result (λ found.
         IsDescribed (lotting (P.layout lots.now)) found.manner made.now found.text.items) }
     ensures items { IfOk result (λ found. AreItemsOf made.now found.items found.excepted) }
@@ -271,7 +271,7 @@ fn remainder<P: Lotting>(
     requires parted { IsParted _made.now _whole.now excepted.now at }
     requires by_itself { at ≡ 0 → IsOfDivisions (lotting (P.layout lots.now)) township _made.now }
     requires read { IsReadAs _whole.now description }
-    requires only { (items : List Named) → IsReadAs _whole.now items → description ≡ items }
+    requires only { (items : List PhraseKind) → IsReadAs _whole.now items → description ≡ items }
     ensures described { IfOk result (λ found.
         IsDescribed (lotting (P.layout lots.now)) found.manner _made.now found.text.items) }
     ensures items { IfOk result (λ found. AreItemsOf _made.now found.items found.excepted) }
