@@ -1,7 +1,7 @@
 //! The cells of a line.
 ghost use Rattle.std.specs.Prelude.{◌≡◌, ◌==◌, IfOk, option_map};
 ghost use Rattle.csv.specs.Records.{fields_of};
-ghost use Rattle.twp_plat.specs.steps.CellCuts.{step_of, bare_step, cells_of};
+ghost use Rattle.twp_plat.specs.steps.CellCuts.{effect_of, bare_effect, cells_of};
 
 use csv::ByteRecord;
 use std::alloc::{AllocError, Global};
@@ -33,7 +33,7 @@ pub enum Place {
 
 /// What a byte does to the cell at hand.
 #[derive(Clone, Copy)]
-pub enum Step {
+pub enum Effect {
     /// It is a byte of the cell. The next byte is at this place.
     Joins(Place),
     /// It is a quotation mark, and no byte of the cell.
@@ -44,52 +44,52 @@ pub enum Step {
     Fails,
 }
 
-/// The step of a byte.
-fn step_of(separator: u8, place: Place, byte: u8) -> Step
-    ensures { result ≡ step_of separator place byte }
+/// What a byte does.
+fn effect_of(separator: u8, place: Place, byte: u8) -> Effect
+    ensures { result ≡ effect_of separator place byte }
 {
     match place {
         Place::Start => {
             if byte == QUOTATION_MARK {
-                Step::Opens(Place::Quoted)
+                Effect::Opens(Place::Quoted)
             } else {
-                bare_step(separator, byte)
+                bare_effect(separator, byte)
             }
         }
         Place::Bare => {
             if byte == QUOTATION_MARK {
-                Step::Fails
+                Effect::Fails
             } else {
-                bare_step(separator, byte)
+                bare_effect(separator, byte)
             }
         }
         Place::Quoted => {
             if byte == QUOTATION_MARK {
-                Step::Opens(Place::AfterQuote)
+                Effect::Opens(Place::AfterQuote)
             } else {
-                Step::Joins(Place::Quoted)
+                Effect::Joins(Place::Quoted)
             }
         }
         Place::AfterQuote => {
             if byte == QUOTATION_MARK {
-                Step::Joins(Place::Quoted)
+                Effect::Joins(Place::Quoted)
             } else if byte == separator {
-                Step::EndsCell
+                Effect::EndsCell
             } else {
-                Step::Fails
+                Effect::Fails
             }
         }
     }
 }
 
-/// The step of a byte that is not a quotation mark, outside of quotation marks.
-fn bare_step(separator: u8, byte: u8) -> Step
-    ensures { result ≡ bare_step (byte == separator) }
+/// What a byte that is not a quotation mark does, outside of quotation marks.
+fn bare_effect(separator: u8, byte: u8) -> Effect
+    ensures { result ≡ bare_effect (byte == separator) }
 {
     if byte == separator {
-        Step::EndsCell
+        Effect::EndsCell
     } else {
-        Step::Joins(Place::Bare)
+        Effect::Joins(Place::Bare)
     }
 }
 
@@ -101,20 +101,20 @@ pub fn cells_of(alloc: Global, separator: u8, line: &[u8]) -> Result<Option<Byte
     let mut cell = Vec::new(alloc);
     let mut place = Place::Start;
     for byte in line {
-        match step_of(separator, place, *byte) {
-            Step::Joins(next) => {
+        match effect_of(separator, place, *byte) {
+            Effect::Joins(next) => {
                 cell.push(*byte)?;
                 place = next;
             }
-            Step::Opens(next) => {
+            Effect::Opens(next) => {
                 place = next;
             }
-            Step::EndsCell => {
+            Effect::EndsCell => {
                 cells.push_field(cell.as_slice())?;
                 cell.clear();
                 place = Place::Start;
             }
-            Step::Fails => {
+            Effect::Fails => {
                 return Ok(None);
             }
         }
