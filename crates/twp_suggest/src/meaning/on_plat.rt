@@ -1,6 +1,6 @@
 //! The land that a text names on the plat of a township.
 ghost use Rattle.std.specs.Prelude.{◌≡◌, true, false, IfOk, IfSome, List, None};
-ghost use Rattle.twp_grammar.specs.declared.item.Item.{Item as PhraseKind};
+ghost use Rattle.twp_grammar.specs.declared.item.Item.{Item as Named};
 ghost use Rattle.twp_grammar.specs.Sentences.{IsReadAs};
 ghost use Rattle.twp_grid.specs.Lands.{lotting};
 ghost use Rattle.twp_suggest.specs.Descriptions.{IsAccepted, IsLandOfText, IsOnlyLandOfText, NamesNoLand, NamesTownship};
@@ -15,7 +15,7 @@ use twp_resolve::resolve_into;
 /// The description that a text is read as. None if the reader refuses it.
 pub(crate) fn read(alloc: Global, text: &[u8]) -> Result<Option<Description>, AllocError>
     ensures read { IfOk result (λ it. IfSome it (IsReadAs text.now)) }
-    ensures only { IfOk result (λ it. IfSome it (λ found. (items : List PhraseKind)
+    ensures only { IfOk result (λ it. IfSome it (λ found. (items : List Named)
         → IsReadAs text.now items → found ≡ items)) }
     ensures refused { IfOk result (λ it. it ≡ None → ¬ IsAccepted text.now) }
 {
