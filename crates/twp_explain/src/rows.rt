@@ -168,13 +168,13 @@ const HINTS: [ListHint; 8] = [
 
 /// Appends what mends a record, where that is known.
 fn write_help(alloc: Global, listed: &Listed<'_>, text: &mut String) -> Result<(), AllocError> {
-    for hint in &HINTS {
-        let ListHint(sign, advice) = hint;
+    for row in &HINTS {
+        let ListHint(sign, hint) = row;
         if sign.fits(listed) {
             if *sign == ListPattern::Unquoted && ends_before_last(alloc, listed)? {
                 return Ok(());
             }
-            text.push_str(advice)?;
+            text.push_str(hint)?;
             return write_mended(*sign, listed, text);
         }
     }
