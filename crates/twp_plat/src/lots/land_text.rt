@@ -6,10 +6,9 @@ ghost use Rattle.twp_plat.specs.steps.LandPaints.{IsPainting, IsLandPainted, Are
 ghost use Rattle.twp_plat.specs.steps.LandWalk.{next, ends_part, step_begun, step_of};
 
 use std::alloc::{AllocError, Global};
-use twp_grammar::{Kind, Step, Steps, first_token};
+use twp_grammar::{Kind, Step, Steps, chain_block, first_token};
 use twp_grid::{EastWest, NorthSouth, Section, Side};
 use twp_land::LotMarks;
-use twp_resolve::chain_block;
 
 /// How far the tokens of a record's land are into a sequence of aliquot parts, named after the last token.
 #[derive(Clone, Copy)]

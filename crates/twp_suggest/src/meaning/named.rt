@@ -12,11 +12,10 @@ use crate::meaning::no_reading::NoReading;
 use crate::meaning::on_plat::read;
 use std::alloc::{AllocError, Global};
 use twp_diagnose::holds_whole_lots;
-use twp_grammar::{Item, Numeral, Steps};
+use twp_grammar::{Item, Numeral, Steps, chain_block};
 use twp_grid::{Block, Section};
 use twp_land::{Land, Lanes, Lotting, PlaceSet};
 use twp_read::Description;
-use twp_resolve::chain_block;
 
 /// Items name what no township has, or the same land twice.
 #[derive(Clone, Copy, PartialEq, Eq)]
