@@ -270,15 +270,15 @@ fn have_text(readings: &[Reading<'_>], text: &[u8]) -> bool
     ensures { IsTrue result → Any (λ reading. reading.text.items ≡ text.now) readings.now }
 {
     for reading in readings {
-        if is_text(reading, text) {
+        if has_text(reading, text) {
             return true;
         }
     }
     false
 }
 
-/// Whether this is the text of a reading.
-fn is_text(reading: &Reading<'_>, text: &[u8]) -> bool
+/// Whether a reading has this text.
+fn has_text(reading: &Reading<'_>, text: &[u8]) -> bool
     ensures { IsTrue result ↔ (reading.now.text.items ≡ text.now) }
 {
     reading.text.as_slice() == text

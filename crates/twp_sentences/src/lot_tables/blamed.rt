@@ -6,8 +6,8 @@ ghost use Rattle.twp_sentences.specs.BlamedInTables.{AreBlamedInTable, AreColumn
 ghost use Rattle.twp_sentences.specs.BlamedInTables.{AreUnlikeHeading, IsNotOfLot, columns_of};
 
 use crate::field_notes::{FieldRange, unlike_township};
-use twp_diagnose::{Record, is_text};
-use twp_notes::section_of;
+use twp_diagnose::Record;
+use twp_notes::{is_exactly, section_of};
 use twp_plat::LotsFault;
 
 /// The number of fields in the record of a lot.
@@ -58,11 +58,11 @@ fn unlike_lots_heading(record: &Record<'_>) -> FieldRange
     ensures { fields_in «record».now ≢ lots_heading
         → AreUnlikeHeading (fields_in «record».now) result }
 {
-    if !is_text(record.text(0), "section") {
+    if !is_exactly(record.text(0), "section") {
         FieldRange::one(0)
-    } else if !is_text(record.text(1), "lot") {
+    } else if !is_exactly(record.text(1), "lot") {
         FieldRange::one(1)
-    } else if !is_text(record.text(2), "acres") {
+    } else if !is_exactly(record.text(2), "acres") {
         FieldRange::one(2)
     } else {
         FieldRange {
@@ -76,7 +76,7 @@ fn unlike_lots_heading(record: &Record<'_>) -> FieldRange
 fn heading_fields(record: &Record<'_>) -> usize
     ensures { AreColumns (fields_in «record».now) result }
 {
-    if is_text(record.text(LAND), "land") {
+    if is_exactly(record.text(LAND), "land") {
         LAND_FIELDS
     } else {
         LOT_FIELDS
