@@ -3,7 +3,7 @@
 //! with their laws.
 #![tactic(auto)]
 
-mod chain_block;
+mod chain;
 mod cutting;
 mod expected;
 mod item;
@@ -13,7 +13,7 @@ mod tokens;
 mod transition;
 mod word;
 
-pub use chain_block::chain_block;
+pub use chain::chain_block;
 pub use cutting::{byte_at, digits, lexeme_at};
 pub use expected::Expected;
 pub use item::{Item, Numeral, Step, Steps};
