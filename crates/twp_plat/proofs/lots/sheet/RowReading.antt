@@ -9,13 +9,13 @@ use Rattle.std.proofs.lemmas.List.Folds.{list_any-append}
 use Rattle.twp_plat.specs.PlainTables.{quotation_mark, with_quotes_doubled, quoted, is_bare, IsCell, bare}
 use Rattle.twp_plat.specs.PlainTables.{within_quotes, IsRow}
 use Rattle.twp_plat.specs.steps.CellCuts.{effect_by, effect_of, last_cell, with_cell, cells_from, cells_of}
-use Rattle.twp_plat.specs.declared.lots.sheet.cells.Place.{Place}
-use Rattle.twp_plat.specs.declared.lots.sheet.cells.Place.TheVariants as at
+use Rattle.twp_plat.specs.declared.lots.sheet.cells.CellPlace.{CellPlace}
+use Rattle.twp_plat.specs.declared.lots.sheet.cells.CellPlace.TheVariants as at
 use Rattle.twp_plat.specs.declared.lots.sheet.cells.Effect.{Effect}
 use Rattle.twp_plat.specs.declared.lots.sheet.cells.Effect.TheVariants as does
 
 -- the text of a cell up to a place, of which these bytes were read
-abbrev IsRead : ℕ → Place → List ℕ → List ℕ → Type 0
+abbrev IsRead : ℕ → CellPlace → List ℕ → List ℕ → Type 0
 IsRead separator at.Start cell text = (cell ≡ []) × (text ≡ [])
 IsRead separator at.Bare cell text = (is_bare separator text ≡ true) × (cell ≡ text)
 IsRead separator at.Quoted cell text = text ≡ quotation_mark ∷ with_quotes_doubled cell
@@ -48,7 +48,7 @@ doubled_quote cell byte is =
     ∙ sym (append_assoc (with_quotes_doubled cell) (quotation_mark ∷ []) (byte ∷ []))
 
 -- what a byte leaves that joins the cell, and one that opens or closes quotation marks
-joined : (separator byte : ℕ) (cell text : List ℕ) (next : Place) (place : Place) (quotes ends : Bool)
+joined : (separator byte : ℕ) (cell text : List ℕ) (next : CellPlace) (place : CellPlace) (quotes ends : Bool)
     → IsRead separator place cell text → effect_by place quotes ends ≡ does.Joins next
     → (byte == quotation_mark) ≡ quotes → (byte == separator) ≡ ends
     → IsRead separator next (cell ++ byte ∷ []) (text ++ byte ∷ [])
@@ -72,7 +72,7 @@ joined separator byte cell text next at.Quoted true ends read is quote end = cc
 joined separator byte cell text next at.AfterQuote false true read is quote end = cc
 joined separator byte cell text next at.AfterQuote false false read is quote end = cc
 
-opened : (separator byte : ℕ) (cell text : List ℕ) (next : Place) (place : Place) (quotes ends : Bool)
+opened : (separator byte : ℕ) (cell text : List ℕ) (next : CellPlace) (place : CellPlace) (quotes ends : Bool)
     → IsRead separator place cell text → effect_by place quotes ends ≡ does.Opens next
     → (byte == quotation_mark) ≡ quotes
     → IsRead separator next cell (text ++ byte ∷ [])
@@ -93,7 +93,7 @@ opened separator byte cell text next at.AfterQuote false true read is quote = cc
 opened separator byte cell text next at.AfterQuote false false read is quote = cc
 
 -- the cell before a separator
-ended : (separator : ℕ) (cell text : List ℕ) (place : Place) (quotes ends : Bool)
+ended : (separator : ℕ) (cell text : List ℕ) (place : CellPlace) (quotes ends : Bool)
     → IsRead separator place cell text → effect_by place quotes ends ≡ does.EndsCell
     → IsCell separator cell text × (ends ≡ true)
 ended separator cell text at.Start false true read is = (bare (rw read.1 refl) (read.0 ∙ sym read.1), refl)
@@ -109,7 +109,7 @@ ended separator cell text at.AfterQuote true ends read is = cc
 ended separator cell text at.AfterQuote false false read is = cc
 
 -- the last cell of a line
-last : (separator : ℕ) (place : Place) (cell text : List ℕ) (cells : List (List ℕ))
+last : (separator : ℕ) (place : CellPlace) (cell text : List ℕ) (cells : List (List ℕ))
     → IsRead separator place cell text → last_cell place cell ≡ Some cells → IsRow separator cells text
 last separator at.Start cell text cells read is =
     let e : cell ∷ [] ≡ cells = cc in rw (← e) (bare (rw read.1 refl) (read.0 ∙ sym read.1))
@@ -135,9 +135,9 @@ row_more separator cell text (next ∷ more) rest is row = (text, rest, is, refl
 
 -- what one byte leaves to be read
 read_step : (separator byte : ℕ) (rest : List ℕ)
-    → ((place : Place) (cell text : List ℕ) (cells : List (List ℕ)) → IsRead separator place cell text
+    → ((place : CellPlace) (cell text : List ℕ) (cells : List (List ℕ)) → IsRead separator place cell text
     → cells_from separator place cell rest ≡ Some cells → IsRow separator cells (text ++ rest))
-    → (place : Place) (cell text : List ℕ) (cells : List (List ℕ)) → IsRead separator place cell text
+    → (place : CellPlace) (cell text : List ℕ) (cells : List (List ℕ)) → IsRead separator place cell text
     → (effect : Effect) → effect_of separator place byte ≡ effect
     → elim effect [
       | does.Joins next ↦ cells_from separator next (cell ++ byte ∷ []) rest
@@ -161,7 +161,7 @@ read_step separator byte rest later place cell text cells read does.EndsCell eff
     rw (eqb-true byte separator end.1, found.2) (row_more separator cell text found.0 rest end.0 row)
 read_step separator byte rest later place cell text cells read does.Fails effect is = cc
 
-read_row : (separator : ℕ) (rest : List ℕ) (place : Place) (cell text : List ℕ)
+read_row : (separator : ℕ) (rest : List ℕ) (place : CellPlace) (cell text : List ℕ)
     (cells : List (List ℕ)) → IsRead separator place cell text
     → cells_from separator place cell rest ≡ Some cells → IsRow separator cells (text ++ rest)
 unfolding cells_from

@@ -20,7 +20,7 @@ pub const QUOTATION_MARK: u8 = b'"';
 
 /// The place of a byte in its cell.
 #[derive(Clone, Copy)]
-pub enum Place {
+pub enum CellPlace {
     /// At the cell's first byte.
     Start,
     /// In a cell without quotation marks.
@@ -35,9 +35,9 @@ pub enum Place {
 #[derive(Clone, Copy)]
 pub enum Effect {
     /// It is a byte of the cell. The next byte is at this place.
-    Joins(Place),
+    Joins(CellPlace),
     /// It is a quotation mark, and no byte of the cell.
-    Opens(Place),
+    Opens(CellPlace),
     /// It separates the cell from the next.
     EndsCell,
     /// It is a quotation mark where none may be, or is after one that ends the cell.
@@ -45,34 +45,34 @@ pub enum Effect {
 }
 
 /// What a byte does.
-fn effect_of(separator: u8, place: Place, byte: u8) -> Effect
+fn effect_of(separator: u8, place: CellPlace, byte: u8) -> Effect
     ensures { result ≡ effect_of separator place byte }
 {
     match place {
-        Place::Start => {
+        CellPlace::Start => {
             if byte == QUOTATION_MARK {
-                Effect::Opens(Place::Quoted)
+                Effect::Opens(CellPlace::Quoted)
             } else {
                 bare_effect(separator, byte)
             }
         }
-        Place::Bare => {
+        CellPlace::Bare => {
             if byte == QUOTATION_MARK {
                 Effect::Fails
             } else {
                 bare_effect(separator, byte)
             }
         }
-        Place::Quoted => {
+        CellPlace::Quoted => {
             if byte == QUOTATION_MARK {
-                Effect::Opens(Place::AfterQuote)
+                Effect::Opens(CellPlace::AfterQuote)
             } else {
-                Effect::Joins(Place::Quoted)
+                Effect::Joins(CellPlace::Quoted)
             }
         }
-        Place::AfterQuote => {
+        CellPlace::AfterQuote => {
             if byte == QUOTATION_MARK {
-                Effect::Joins(Place::Quoted)
+                Effect::Joins(CellPlace::Quoted)
             } else if byte == separator {
                 Effect::EndsCell
             } else {
@@ -89,7 +89,7 @@ fn bare_effect(separator: u8, byte: u8) -> Effect
     if byte == separator {
         Effect::EndsCell
     } else {
-        Effect::Joins(Place::Bare)
+        Effect::Joins(CellPlace::Bare)
     }
 }
 
@@ -99,7 +99,7 @@ pub fn cells_of(alloc: Global, separator: u8, line: &[u8]) -> Result<Option<Byte
 {
     let mut cells = ByteRecord::new(alloc);
     let mut cell = Vec::new(alloc);
-    let mut place = Place::Start;
+    let mut place = CellPlace::Start;
     for byte in line {
         match effect_of(separator, place, *byte) {
             Effect::Joins(next) => {
@@ -112,14 +112,14 @@ pub fn cells_of(alloc: Global, separator: u8, line: &[u8]) -> Result<Option<Byte
             Effect::EndsCell => {
                 cells.push_field(cell.as_slice())?;
                 cell.clear();
-                place = Place::Start;
+                place = CellPlace::Start;
             }
             Effect::Fails => {
                 return Ok(None);
             }
         }
     }
-    if let Place::Quoted = place {
+    if let CellPlace::Quoted = place {
         return Ok(None);
     }
     cells.push_field(cell.as_slice())?;
