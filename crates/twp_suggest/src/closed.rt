@@ -4,7 +4,7 @@ ghost use Rattle.twp_grammar.specs.Tokens.{seen as token};
 ghost use Rattle.twp_grid.specs.Lands.{lotting};
 ghost use Rattle.twp_rules.specs.declared.rule.Rule.TheVariants.{Word};
 ghost use Rattle.twp_rules.specs.Changes.{seen};
-ghost use Rattle.twp_suggest.specs.Closed.{AreClosed, AreWaysGiven, IsClosed, IsLandGiven, IsLandOf, IsWayGiven};
+ghost use Rattle.twp_suggest.specs.Closed.{AreClosed, AreWaysGiven, IsClosed, IsLandGiven, IsLandOfReadings, IsWayGiven};
 ghost use Rattle.twp_suggest.specs.Closed.{NamesSame};
 ghost use Rattle.twp_suggest.specs.Readings.{IsReading};
 ghost use Rattle.twp_suggest.specs.Sharing.{AreShared, AtToken, IsShared};
@@ -318,7 +318,7 @@ fn is_land_given<P: Lotting>(
     lots: &P,
 ) -> Result<bool, AllocError>
     ensures { IfOk result (λ it. it ≡ true →
-        IsLandOf (lotting (P.layout lots.now)) readings.now text.now township) }
+        IsLandOfReadings (lotting (P.layout lots.now)) readings.now text.now township) }
 {
     let mut land = Lanes::empty();
     let has_land = find_land(alloc, text, township, &mut land, lots)?;

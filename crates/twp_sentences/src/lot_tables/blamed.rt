@@ -2,7 +2,7 @@
 ghost use Rattle.std.specs.Prelude.{◌≡◌, ◌≢◌};
 ghost use Rattle.twp_plat.specs.LotRecords.{lots_heading};
 ghost use Rattle.twp_diagnose.specs.RecordFields.{fields_in};
-ghost use Rattle.twp_sentences.specs.BlamedInTables.{AreBlamedInTable, AreColumns, AreMiscounted};
+ghost use Rattle.twp_sentences.specs.BlamedInTables.{AreBlamedInTable, IsColumnCount, AreMiscounted};
 ghost use Rattle.twp_sentences.specs.BlamedInTables.{AreUnlikeHeading, IsNotOfLot, columns_of};
 
 use crate::field_notes::{FieldRange, unlike_township};
@@ -74,7 +74,7 @@ fn unlike_lots_heading(record: &Record<'_>) -> FieldRange
 
 /// How many fields the heading has whose first three a record has.
 fn heading_fields(record: &Record<'_>) -> usize
-    ensures { AreColumns (fields_in «record».now) result }
+    ensures { IsColumnCount (fields_in «record».now) result }
 {
     if is_exactly(record.text(LAND), "land") {
         LAND_FIELDS

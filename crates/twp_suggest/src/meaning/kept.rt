@@ -3,7 +3,7 @@ ghost use Rattle.std.specs.Prelude.{◌≡◌, ◌≢◌, ◌≤◌, ◌<◌, �
 ghost use Rattle.std.specs.Prelude.{drop, length, slice_index, take};
 ghost use Rattle.twp_suggest.specs.Excepting.{HasNoExceptBefore, HasNoSemicolon, IsDivided, AreAroundExcept, alone, blanks};
 ghost use Rattle.twp_suggest.specs.Excepting.{except, kept, semicolon, taken, without};
-ghost use Rattle.twp_suggest.specs.steps.ExceptingSteps.{IsAdded};
+ghost use Rattle.twp_suggest.specs.steps.ExceptingSteps.{IsDivisionAdded};
 
 use std::alloc::{AllocError, Global};
 
@@ -81,7 +81,7 @@ fn add_division(
     mark: u8,
 ) -> Result<u8, AllocError>
     requires { HasNoSemicolon text.now }
-    ensures { IfOk result (λ after. IsAdded text.now mark after whole.old.items whole.new.items
+    ensures { IfOk result (λ after. IsDivisionAdded text.now mark after whole.old.items whole.new.items
         excepted.old.items excepted.new.items) }
 {
     match around_except(text) {
