@@ -1,6 +1,7 @@
 //! Quarter-quarters that a lot lies in and that also contain land in no part of a record.
 ghost use Rattle.std.specs.Prelude.{◌≡◌, ◌≤◌, ◌<◌, ◌↔◌, IsTrue};
-ghost use Rattle.twp_plat.specs.steps.Unfilled.{IsLeast, earlier_of, mark_within, IsRecordOfMark, HasFreePlace};
+ghost use Rattle.twp_plat.specs.steps.Unfilled.{IsLeast, earlier_of, mark_within, IsRecordOfMark};
+ghost use Rattle.twp_plat.specs.steps.Unfilled.{HasFreePlace};
 ghost use Rattle.twp_plat.specs.steps.Unfilled.{HasMarkedPlace};
 ghost use Rattle.twp_plat.specs.steps.Unfilled.{IsLotRecordAt, IsUnfilledAt, IsUnfilledIn, IsUnfilledRecord};
 ghost use Rattle.twp_plat.specs.steps.Unfilled.{AreMarksOfLots};

@@ -77,8 +77,8 @@ fn hint_of(
     }
 }
 
-/// What the explanation says of a line besides its fault: its index, and the hint on its record, or else one from
-/// its distances.
+/// What the explanation says of a line besides its fault: its index, and the hint on its record, or else
+/// one from its distances.
 fn help(
     alloc: Global,
     line: Line,

@@ -1,7 +1,8 @@
 //! What a changed text keeps, and what it takes away, if it excepts land: its first exception, and its divisions.
 ghost use Rattle.std.specs.Prelude.{◌≡◌, ◌≢◌, ◌≤◌, ◌<◌, ◌++◌, ◌∷◌, [], ℕ, IfOk, IfSome, MatchBool, MatchOption, OnOk};
 ghost use Rattle.std.specs.Prelude.{drop, length, slice_index, take};
-ghost use Rattle.twp_suggest.specs.Excepting.{HasNoExceptBefore, HasNoSemicolon, IsDivided, AreAroundExcept, alone, blanks};
+ghost use Rattle.twp_suggest.specs.Excepting.{HasNoExceptBefore, HasNoSemicolon, IsDivided};
+ghost use Rattle.twp_suggest.specs.Excepting.{AreAroundExcept, alone, blanks};
 ghost use Rattle.twp_suggest.specs.Excepting.{except, kept, semicolon, taken, without};
 ghost use Rattle.twp_suggest.specs.steps.ExceptingSteps.{IsDivisionAdded};
 

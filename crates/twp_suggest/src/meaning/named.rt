@@ -132,7 +132,8 @@ fn has_none_off_plat<L: Land, P: Lotting>(land: &L, section: Section, lots: &P) 
     true
 }
 
-/// Why a description whose land isn't on the plat is no reading: it names some land twice, or a part of a lot.
+/// Why a description whose land isn't on the plat is no reading: it names some land twice, or a part of a
+/// lot.
 #[inline(never)]
 pub(crate) fn why_no_reading<P: Lotting>(description: &Description, lots: &P) -> NoReading {
     let mut land = Lanes::empty();
