@@ -2,7 +2,7 @@
 
 use crate::finder::Finder;
 use twp_asides::{end_of_trailer, plus};
-use twp_draft::{LeftOut, Names};
+use twp_draft::{LeftOut, PhraseKind};
 use twp_grammar::Kind;
 use twp_rules::Rule;
 
@@ -16,10 +16,13 @@ impl<'a> Finder<'a> {
     /// What is left out at an index.
     #[inline(never)]
     pub(crate) fn aside(&mut self, index: usize) -> Option<usize> {
-        let from = self.draft.extent();
+        let from = self.draft.checkpoint();
         let pieces = &self.draft.pieces;
         if let Some((left_out, end)) = self.end_of_aside(index) {
-            return Some(self.draft.add(Names::Nothing(left_out), index, end, from));
+            return Some(
+                self.draft
+                    .add(PhraseKind::Nothing(left_out), index, end, from),
+            );
         }
         if matches!(pieces.kind(index), Kind::Number(_)) {
             return None;
@@ -36,7 +39,7 @@ impl<'a> Finder<'a> {
     /// `being` at an index, also in parentheses, with all land that was named before it, as in
     /// `All, being Lots 1 thru 7, ..`
     fn being(&mut self, index: usize) -> Option<usize> {
-        let from = self.draft.extent();
+        let from = self.draft.checkpoint();
         let pieces = &self.draft.pieces;
         let is_in_parentheses = pieces.is(index, b"(");
         let word = if is_in_parentheses {
@@ -67,7 +70,7 @@ impl<'a> Finder<'a> {
         }
         let last = plus(end, usize::from(is_closed));
         self.draft
-            .add(Names::Nothing(LeftOut::Repeated), index, last, from);
+            .add(PhraseKind::Nothing(LeftOut::Repeated), index, last, from);
         self.draft.add_said(first, said, from);
         Some(last)
     }
@@ -118,8 +121,8 @@ impl<'a> Finder<'a> {
         let pieces = &self.draft.pieces;
         // After all of a section, or after acreage, the dash may be a minus.
         let may_be_minus = matches!(
-            self.draft.last_names(),
-            Some(Names::All | Names::Nothing(LeftOut::Acreage))
+            self.draft.last_kind(),
+            Some(PhraseKind::All | PhraseKind::Nothing(LeftOut::Acreage))
         );
         let is_figure = pieces.number(index).is_some();
         if !is_figure {
@@ -181,7 +184,7 @@ impl<'a> Finder<'a> {
         if let Some(end) = pieces.end_of_meridian(index) {
             return Some((LeftOut::Meridian, end));
         }
-        if self.draft.last_names() == Some(Names::Heading) {
+        if self.draft.last_kind() == Some(PhraseKind::Heading) {
             if let Some(end) = pieces.end_of_bare_meridian(index) {
                 return Some((LeftOut::Meridian, end));
             }
@@ -194,7 +197,7 @@ impl<'a> Finder<'a> {
             if let Some(end) = unsaid {
                 return Some((LeftOut::Label, end));
             }
-            if self.draft.last_names() != Some(Names::Sections) {
+            if self.draft.last_kind() != Some(PhraseKind::Sections) {
                 if let Some(end) = pieces.end_of_share_in_cell(index) {
                     return Some((LeftOut::Label, end));
                 }
@@ -221,7 +224,8 @@ impl<'a> Finder<'a> {
         let pieces = &self.draft.pieces;
         let is_after_heading = match self.draft.phrases.as_slice() {
             [.., before, last] => {
-                last.phrase.names == Names::Heading && before.phrase.names != Names::Sections
+                last.phrase.kind == PhraseKind::Heading
+                    && before.phrase.kind != PhraseKind::Sections
             }
             _ => false,
         };
@@ -267,7 +271,7 @@ impl<'a> Finder<'a> {
         let pieces = &self.draft.pieces;
         let close_mark: &'static [u8] = if pieces.is(index, b"[") { b"]" } else { b")" };
         if !(pieces.is(index, b"(") || pieces.is(index, b"["))
-            || self.draft.last_names() != Some(Names::Part)
+            || self.draft.last_kind() != Some(PhraseKind::Part)
         {
             return None;
         }
@@ -284,10 +288,10 @@ impl<'a> Finder<'a> {
 
     /// The parentheses at an index with the land before them again.
     fn repeated(&mut self, index: usize) -> Option<usize> {
-        let from = self.draft.extent();
+        let from = self.draft.checkpoint();
         let being = self.draft.pieces.after_being(plus(index, 1));
         let first = self.draft.pieces.after_all_of(being);
-        let before = self.draft.last_names()?;
+        let before = self.draft.last_kind()?;
         let land = if matches!(self.draft.pieces.kind(first), Kind::All) {
             plus(first, 1)
         } else {
@@ -299,7 +303,7 @@ impl<'a> Finder<'a> {
             None
         };
         let close = acreage.unwrap_or(land);
-        let is_land = matches!(before, Names::Part | Names::Lots);
+        let is_land = matches!(before, PhraseKind::Part | PhraseKind::Lots);
         let mark: &'static [u8] = if self.draft.pieces.is(index, b"[") {
             b"]"
         } else {
@@ -313,7 +317,7 @@ impl<'a> Finder<'a> {
         self.draft.shrink_changes(from);
         Some(
             self.draft
-                .add(Names::Nothing(LeftOut::Repeated), index, end, from),
+                .add(PhraseKind::Nothing(LeftOut::Repeated), index, end, from),
         )
     }
 

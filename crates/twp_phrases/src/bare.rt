@@ -2,7 +2,7 @@
 
 use crate::finder::Finder;
 use twp_asides::plus;
-use twp_draft::{Form, LeftOut, Names, WrittenNumber};
+use twp_draft::{Form, LeftOut, PhraseKind, WrittenNumber};
 use twp_grammar::Kind;
 use twp_rules::Rule;
 
@@ -13,7 +13,7 @@ impl<'a> Finder<'a> {
     /// The section of a location, as in `S14 T2N R3W`.
     #[inline(never)]
     pub(crate) fn section_of_letter(&mut self, index: usize) -> Option<usize> {
-        let from = self.draft.extent();
+        let from = self.draft.checkpoint();
         let digits = self.digits_of_letter(index);
         let Some(number) = self.number_of_letter(index, digits) else {
             return None;
@@ -39,7 +39,7 @@ impl<'a> Finder<'a> {
         self.draft
             .leave_out_each(plus(index, 1), digits, Rule::Mark);
         self.draft.write_numeral(number);
-        Some(self.draft.add(Names::Sections, index, next, from))
+        Some(self.draft.add(PhraseKind::Sections, index, next, from))
     }
 
     /// The index of the number after the letter for a section at an index, and after a period, as in
@@ -80,7 +80,7 @@ impl<'a> Finder<'a> {
             Some(section) => pieces.is(section.first, b"s"),
             None => false,
         };
-        (self.draft.last_names() == Some(Names::Heading)
+        (self.draft.last_kind() == Some(PhraseKind::Heading)
             && (is_before_colon || pieces.is(digits, b":") || pieces.bytes(digits).len() >= 2))
             || (is_list && is_before_colon)
             || pieces.is_section_before_land(index)
@@ -99,8 +99,8 @@ impl<'a> Finder<'a> {
             Some(placed) => {
                 placed.phrase.end == index
                     && matches!(
-                        placed.phrase.names,
-                        Names::Part | Names::Lots | Names::Nothing(LeftOut::Repeated)
+                        placed.phrase.kind,
+                        PhraseKind::Part | PhraseKind::Lots | PhraseKind::Nothing(LeftOut::Repeated)
                     )
             }
             None => false,
@@ -122,8 +122,8 @@ impl<'a> Finder<'a> {
             None => false,
         };
         let is_after_lots = matches!(
-            self.draft.last_names(),
-            Some(Names::Lots | Names::Nothing(LeftOut::Repeated))
+            self.draft.last_kind(),
+            Some(PhraseKind::Lots | PhraseKind::Nothing(LeftOut::Repeated))
         );
         (pieces.is(digits, b"2") || (pieces.is(digits, b"4") && !is_after_lots)) && !is_before_land
     }
@@ -131,8 +131,8 @@ impl<'a> Finder<'a> {
     /// The number of a section without a word for it.
     #[inline(never)]
     pub(crate) fn bare_section(&mut self, index: usize) -> Option<usize> {
-        let from = self.draft.extent();
-        let last = self.draft.last_names();
+        let from = self.draft.checkpoint();
+        let last = self.draft.last_kind();
         let pieces = &self.draft.pieces;
         let Some(number) = self.section_number(index) else {
             return None;
@@ -140,7 +140,7 @@ impl<'a> Finder<'a> {
         if !matches!(pieces.kind(index), Kind::Number(_)) {
             return None;
         }
-        let is_list = last == Some(Names::All)
+        let is_list = last == Some(PhraseKind::All)
             && (pieces.follows(index, b"of")
                 || matches!(pieces.kind_before(index), Some(Kind::All)))
             && !pieces.is_before_dash_and_tier(plus(index, 1));
@@ -157,11 +157,11 @@ impl<'a> Finder<'a> {
         self.draft.write(place, place, b"sec. ", Rule::SectionWord);
         self.draft.write_numeral(number);
         let end = if is_list {
-            self.numbers_after(number, Names::Sections, true)
+            self.numbers_after(number, PhraseKind::Sections, true)
         } else {
             number.end
         };
-        self.draft.add(Names::Sections, index, end, from);
+        self.draft.add(PhraseKind::Sections, index, end, from);
         if is_list {
             self.draft.note_form(Form::Plural);
         }
@@ -172,7 +172,7 @@ impl<'a> Finder<'a> {
     fn is_among_tracts(&self) -> bool {
         for placed in self.draft.phrases.iter().rev().take(PHRASES_MOST) {
             let phrase = &placed.phrase;
-            if phrase.names == Names::Nothing(LeftOut::Label)
+            if phrase.kind == PhraseKind::Nothing(LeftOut::Label)
                 && self.draft.pieces.is_label_of_tract(phrase.first)
             {
                 return true;
@@ -196,9 +196,11 @@ impl<'a> Finder<'a> {
                 }
             }
         }
-        match self.draft.last_names() {
-            Some(Names::Heading) => true,
-            Some(Names::Part | Names::All | Names::Lots) => pieces.follows(end, b")"),
+        match self.draft.last_kind() {
+            Some(PhraseKind::Heading) => true,
+            Some(PhraseKind::Part | PhraseKind::All | PhraseKind::Lots) => pieces.follows(
+                end, b")",
+            ),
             _ => false,
         }
     }
@@ -244,7 +246,7 @@ impl<'a> Finder<'a> {
     fn is_first_before_tier(&self, index: usize) -> bool {
         let pieces = &self.draft.pieces;
         let next = plus(index, 1);
-        let is_first = matches!(self.draft.last_names(), None | Some(Names::Nothing(_)));
+        let is_first = matches!(self.draft.last_kind(), None | Some(PhraseKind::Nothing(_)));
         is_first
             && !self.names_land
             && !pieces.is_joined(index)
@@ -270,8 +272,8 @@ impl<'a> Finder<'a> {
         let is_cell = pieces.has_before(index, b'\t') && pieces.has_before(plus(index, 1), b'\t');
         let is_after_land = match self.draft.phrases.as_slice() {
             [.., heading, land] => {
-                heading.phrase.names == Names::Heading
-                    && matches!(land.phrase.names, Names::Part | Names::Lots)
+                heading.phrase.kind == PhraseKind::Heading
+                    && matches!(land.phrase.kind, PhraseKind::Part | PhraseKind::Lots)
                     && land.phrase.end == index
                     && pieces.has_before(land.phrase.first, b'\t')
             }
@@ -306,8 +308,11 @@ impl<'a> Finder<'a> {
     fn is_section_by_marks(&self, index: usize) -> Option<bool> {
         let pieces = &self.draft.pieces;
         let next = plus(index, 1);
-        let last = self.draft.last_names();
-        let is_first = matches!(last, None | Some(Names::Heading | Names::Nothing(_)));
+        let last = self.draft.last_kind();
+        let is_first = matches!(
+            last,
+            None | Some(PhraseKind::Heading | PhraseKind::Nothing(_))
+        );
         let is_after_semicolon = pieces.follows(index, b";");
         let is_apart = is_after_semicolon
             || pieces.follows(index, b",")
@@ -339,7 +344,7 @@ impl<'a> Finder<'a> {
         }
         let is_next = is_list
             && is_after_semicolon
-            && matches!(last, Some(Names::Part | Names::All))
+            && matches!(last, Some(PhraseKind::Part | PhraseKind::All))
             && pieces.begins_land(next)
             && !pieces.is_joined(next);
         if is_next { Some(true) } else { None }
@@ -350,7 +355,7 @@ impl<'a> Finder<'a> {
     fn is_section_by_place(&self, index: usize) -> Option<bool> {
         let pieces = &self.draft.pieces;
         let next = plus(index, 1);
-        let is_after_heading = self.draft.last_names() == Some(Names::Heading);
+        let is_after_heading = self.draft.last_kind() == Some(PhraseKind::Heading);
         let is_after_comma = pieces.follows(index, b",");
         if is_after_heading && !is_after_comma {
             return Some(true);
@@ -365,7 +370,7 @@ impl<'a> Finder<'a> {
             // Alone on its line, it may be that of a page.
             return Some(next < pieces.len() && !pieces.has_before(next, b'\n'));
         }
-        if self.draft.last_names() != Some(Names::Part)
+        if self.draft.last_kind() != Some(PhraseKind::Part)
             || pieces.is_joined(index)
             || is_after_comma
             || pieces.follows(index, b";")

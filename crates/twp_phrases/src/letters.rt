@@ -2,7 +2,7 @@
 
 use crate::finder::Finder;
 use twp_asides::plus;
-use twp_draft::Names;
+use twp_draft::PhraseKind;
 
 impl<'a> Finder<'a> {
     /// Whether the letter and the number at an index fill a cell after a township, and no half has such a number.
@@ -10,7 +10,7 @@ impl<'a> Finder<'a> {
         let pieces = &self.draft.pieces;
         let digits = plus(index, 1);
         let may_be_half = pieces.is(digits, b"2") || pieces.is(digits, b"4");
-        self.draft.last_names() == Some(Names::Heading)
+        self.draft.last_kind() == Some(PhraseKind::Heading)
             && pieces.begins_cell(index)
             && pieces.begins_cell(plus(digits, 1))
             && !may_be_half
@@ -39,8 +39,8 @@ impl<'a> Finder<'a> {
         };
         let is_dashed = pieces.is_dash(plus(section.first, 1)) && pieces.is_dash(next);
         let is_after_land = matches!(
-            self.draft.last_names(),
-            Some(Names::Part | Names::All | Names::Lots)
+            self.draft.last_kind(),
+            Some(PhraseKind::Part | PhraseKind::All | PhraseKind::Lots)
         );
         is_dashed
             && is_after_land

@@ -1,4 +1,3 @@
-pub mod ChainFacts
 pub mod ChainFaults
 pub mod RangeFacts
 pub mod RangeFaults

@@ -9,7 +9,6 @@ mod ranges;
 mod resolving;
 mod shared;
 
-pub use chain::chain_block;
 pub use place_fault::PlaceFault;
 pub use resolving::{names_one_section, resolve, resolve_if_room, resolve_into};
 pub use shared::{SharingItems, shared_into};

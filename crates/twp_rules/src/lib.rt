@@ -41,5 +41,5 @@ pub use change::{Change, are_changes, changed};
 pub use copying::copy_whole;
 pub use naming::{byte_at, byte_before, digits_of, is_side, word_of};
 pub use rule::Rule;
-pub use same::{are_same, begins_with, ends_with};
+pub use same::{are_same, begins_with, ends_with, is_text};
 pub use sayings::is_remark;

@@ -45,7 +45,7 @@ fn is_exactly(seen: &[u8], text: &[u8]) -> bool
 /// Whether a text, with its letters in lowercase, is another one.
 #[inline(always)]
 #[tactic(auto, using(crate::proofs::SameTexts::other_length))]
-pub(crate) fn is_text(seen: &[u8], text: &[u8]) -> bool
+pub fn is_text(seen: &[u8], text: &[u8]) -> bool
     ensures { result ≡ same_bytes (str_to_ascii_lowercase seen.now) text.now }
 {
     if seen.len() != text.len() {

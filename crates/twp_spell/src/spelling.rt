@@ -5,7 +5,7 @@ ghost use Rattle.twp_grid.specs.Places.{PLACE_DIGITS};
 ghost use Rattle.twp_grid.specs.Listing.{AreListed};
 ghost use Rattle.twp_spell.specs.CanonicalText.{lots_entry, heading_line, line_end};
 ghost use Rattle.twp_spell.specs.CanonicalText.{HoldsSome, IsLotHeld, IsCanonicalText};
-ghost use Rattle.twp_spell.specs.steps.SpellingSteps.{entries_text, HasLots, HasSection, AreBegun};
+ghost use Rattle.twp_spell.specs.steps.SpellingSteps.{entries_text, HasLotsText, HasSection, AreBegun};
 ghost use Rattle.twp_grid.specs.Lands.{lotting};
 
 use crate::line_start::LineStart;
@@ -140,7 +140,7 @@ fn write_held_lots<L: PlaceSet, P: Lotting>(
     lots: &P,
     text: &mut Vec<u8>,
 ) -> Result<(), AllocError>
-    ensures { OnOk result (HasLots (lotting (P.layout lots.now)) section (L.places land.now section)
+    ensures { OnOk result (HasLotsText (lotting (P.layout lots.now)) section (L.places land.now section)
         text.old.items text.new.items) }
 {
     let held = held_lots(alloc, land, section, lots)?;

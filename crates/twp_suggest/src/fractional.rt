@@ -4,7 +4,7 @@ use crate::meaning::{find_land, find_named_land, first_township};
 use crate::writer::ChangeWriter;
 use std::alloc::{AllocError, Global};
 use twp_asides::plus;
-use twp_draft::{IndexRange, Names, Phrase, Placed, Role};
+use twp_draft::{IndexRange, Phrase, PhraseKind, Placed, Role};
 use twp_land::{Land, Lanes, Lotting};
 
 /// The land before a place, which moves from one place to the next.
@@ -97,7 +97,7 @@ impl<'p, 'a> ChangeWriter<'p, 'a> {
             if placed.role != role {
                 continue;
             }
-            if placed.phrase.names == Names::Sections {
+            if placed.phrase.kind == PhraseKind::Sections {
                 return self.plan.only_number(placed.phrase.numbers);
             }
             if let Some(section) = placed.section {
@@ -144,7 +144,11 @@ impl<'p, 'a> ChangeWriter<'p, 'a> {
 /// Whether a phrase is land that is kept.
 fn is_land(placed: Placed) -> bool {
     let is_kept = matches!(placed.role, Role::Kept(_));
-    is_kept && matches!(placed.phrase.names, Names::Part | Names::Lots | Names::All)
+    is_kept
+        && matches!(
+            placed.phrase.kind,
+            PhraseKind::Part | PhraseKind::Lots | PhraseKind::All
+        )
 }
 
 /// The text of a section.

@@ -5,7 +5,7 @@ use crate::joints::Shared;
 use crate::outline::{Outline, Parts};
 use crate::writer::ChangeWriter;
 use twp_asides::plus;
-use twp_draft::{Form, Names, Placed};
+use twp_draft::{Form, PhraseKind, Placed};
 use twp_grammar::Kind;
 use twp_rules::{Change, Rule};
 
@@ -26,7 +26,7 @@ impl<'p, 'a> ChangeWriter<'p, 'a> {
         };
         let joining = self.plan.joining(gap, left_out);
         if let (Some(one), Some(other)) = (before, after) {
-            if one.phrase.names == Names::Except || other.phrase.names == Names::Except {
+            if one.phrase.kind == PhraseKind::Except || other.phrase.kind == PhraseKind::Except {
                 return self.write_pieces(gap, left_out, Some(gap.end), false, out);
             }
             if is_joint(one, other) {
@@ -261,7 +261,10 @@ impl<'p, 'a> ChangeWriter<'p, 'a> {
         let is_before_moved = match rest {
             [placed, ..] => {
                 let is_next = placed.phrase.first == after || placed.phrase.first == plus(index, 1);
-                let is_moved = matches!(placed.phrase.names, Names::Sections | Names::Heading);
+                let is_moved = matches!(
+                    placed.phrase.kind,
+                    PhraseKind::Sections | PhraseKind::Heading
+                );
                 is_next && is_moved && !(pieces.is(index, b"and") || pieces.is(index, b"&"))
             }
             [] => false,
@@ -288,9 +291,9 @@ impl<'p, 'a> ChangeWriter<'p, 'a> {
 
     /// Leaves out a phrase, with the white space before it, but for words that a rule looks at as a whole.
     fn write_left_out(&mut self, placed: &Placed, out: &mut Outline<'a>) {
-        let rule = match placed.phrase.names {
-            Names::Nothing(left_out) => left_out.rule(),
-            Names::Heading => Rule::MovedHeading,
+        let rule = match placed.phrase.kind {
+            PhraseKind::Nothing(left_out) => left_out.rule(),
+            PhraseKind::Heading => Rule::MovedHeading,
             _ => Rule::MovedSection,
         };
         let first = placed.phrase.first;

@@ -5,14 +5,14 @@ mod clear;
 mod kept;
 mod manner;
 mod named;
+mod no_reading;
 mod on_plat;
 mod some_land;
-mod unread;
 mod wording;
 
 pub use clear::is_clear;
 pub use manner::Manner;
 pub use named::find_named_land;
+pub use no_reading::NoReading;
 pub use on_plat::{find_land, find_own_land, first_township};
-pub use unread::Unread;
 pub use wording::{Wording, described};

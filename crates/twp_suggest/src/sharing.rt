@@ -10,14 +10,14 @@ ghost use Rattle.twp_suggest.specs.Sharing.{tail_of};
 
 use crate::bytes::{byte_at, is_white};
 use crate::part_tokens::{
-    after_of, after_part, begins_part, first_at, is_comma, is_fraction, last_part, leads_part,
-    of_count, part_after_and,
+    after_of, begins_part, first_at, is_comma, is_fraction, last_part, leads_part, of_count,
+    part_after_and,
 };
 use crate::turned::way_if;
 use crate::way::Way;
 use std::alloc::{AllocError, Global};
 use twp_grammar::{Kind, Token, Tokens};
-use twp_read::begins_step;
+use twp_read::{after_part, begins_step};
 use twp_rules::{Change, Rule, is_side};
 
 /// There is room from the start for one token for each of this many bytes: most texts have fewer.

@@ -1,7 +1,7 @@
 //! What mends a record of a lot table, where its bytes explain it: a table of which the first row that
 //! fits counts.
 
-use crate::field_notes::advice_on;
+use crate::field_notes::note_hint_on;
 use crate::lot_tables::acres::write_two_decimals;
 use crate::lot_tables::lot_patterns::LotPattern;
 use crate::lot_tables::lot_patterns::LotPattern::{
@@ -180,7 +180,7 @@ const TOWNSHIP_OF_NOTES: u8 = 5;
 /// What mends a record that was refused with a number.
 fn hint_on(number: u8, record: &Record<'_>, field: usize) -> Option<&'static str> {
     if number == TOWNSHIP {
-        return advice_on(TOWNSHIP_OF_NOTES, record, field);
+        return note_hint_on(TOWNSHIP_OF_NOTES, record, field);
     }
     for LotHint(refusal, sign, hint) in &LOT_HINTS {
         if *refusal == number && sign.fits(record, field) {

@@ -1,7 +1,7 @@
 //! Land before its sections, as in `NE of Sec. 14`.
 
 use crate::arranged::plan::Plan;
-use twp_draft::{Form, IndexRange, Names, Phrase, Placed, Role};
+use twp_draft::{Form, IndexRange, Phrase, PhraseKind, Placed, Role};
 use twp_grammar::Kind;
 
 /// What was found before a phrase.
@@ -110,13 +110,13 @@ impl<'a> Plan<'a> {
             return;
         };
         let phrase = placed.phrase;
-        match phrase.names {
-            Names::Nothing(_) | Names::Heading => {}
-            Names::Sections => {
+        match phrase.kind {
+            PhraseKind::Nothing(_) | PhraseKind::Heading => {}
+            PhraseKind::Sections => {
                 placed.role = Role::LeftOut;
                 self.take_section_after_land(list, phrase, found);
             }
-            Names::Except => placed.role = found.take_except(),
+            PhraseKind::Except => placed.role = found.take_except(),
             _ => {
                 if found.is_excepting && self.is_of_other_section(list.as_slice(), index, found) {
                     found.end_exception();
@@ -170,13 +170,13 @@ impl<'a> Plan<'a> {
     fn is_before_other_section(&self, list: &[Placed], index: usize, found: &LandSoFar) -> bool {
         for placed in list.get(index..).unwrap_or(&[]) {
             let phrase = placed.phrase;
-            match phrase.names {
-                Names::Sections => {
+            match phrase.kind {
+                PhraseKind::Sections => {
                     return self.count_of(phrase) == 1
                         && self.draft.pieces.follows(phrase.first, b"of")
                         && !self.is_again(found.section, phrase);
                 }
-                Names::Part | Names::Lots | Names::All => {}
+                PhraseKind::Part | PhraseKind::Lots | PhraseKind::All => {}
                 _ => return false,
             }
         }
@@ -233,11 +233,11 @@ impl<'a> Plan<'a> {
             return false;
         }
         let first = found.first.and_then(|index| list.get(index));
-        let names = first.map(|land| land.phrase.names);
-        let is_all = found.lands == 1 && names == Some(Names::All);
+        let kind = first.map(|land| land.phrase.kind);
+        let is_all = found.lands == 1 && kind == Some(PhraseKind::All);
         let is_each = found.lands == 1
             && !found.is_excepting
-            && names == Some(Names::Part)
+            && kind == Some(PhraseKind::Part)
             && phrase.form == Form::Plural;
         !(is_all || is_each) || self.has_range(phrase)
     }

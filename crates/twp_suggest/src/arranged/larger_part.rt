@@ -2,7 +2,7 @@
 
 use crate::arranged::plan::Plan;
 use twp_asides::{is_acres, plus};
-use twp_draft::{LeftOut, Names, Phrase, Placed};
+use twp_draft::{LeftOut, Phrase, PhraseKind, Placed};
 
 /// The nominal area of a section, in hundredths of an acre.
 const SECTION: u64 = 64_000;
@@ -64,12 +64,12 @@ impl<'a> Plan<'a> {
         let mut longest: usize = 0;
         for placed in phrases {
             let phrase = placed.phrase;
-            if !matches!(phrase.names, Names::Part | Names::All) {
+            if !matches!(phrase.kind, PhraseKind::Part | PhraseKind::All) {
                 continue;
             }
             let own = self.share_of(phrase, SECTION);
             apart = apart.saturating_add(own);
-            if phrase.names == Names::Part && phrase.first == end {
+            if phrase.kind == PhraseKind::Part && phrase.first == end {
                 last = self.share_of(phrase, last);
                 count = plus(count, 1);
             } else {
@@ -97,12 +97,12 @@ fn land_of_acreage(list: &[Placed], index: usize) -> &[Placed] {
     let mut first: usize = 0;
     let mut has_part = false;
     for (place, placed) in before.iter().enumerate() {
-        match placed.phrase.names {
-            Names::Nothing(LeftOut::Acreage) => {
+        match placed.phrase.kind {
+            PhraseKind::Nothing(LeftOut::Acreage) => {
                 first = plus(place, 1);
                 has_part = false;
             }
-            Names::Part | Names::All => has_part = true,
+            PhraseKind::Part | PhraseKind::All => has_part = true,
             _ => {}
         }
     }
@@ -111,7 +111,7 @@ fn land_of_acreage(list: &[Placed], index: usize) -> &[Placed] {
     }
     let after = list.get(plus(index, 1)..).unwrap_or(&[]);
     for (place, placed) in after.iter().enumerate() {
-        if placed.phrase.names == Names::Nothing(LeftOut::Acreage) {
+        if placed.phrase.kind == PhraseKind::Nothing(LeftOut::Acreage) {
             return after.get(..place).unwrap_or(&[]);
         }
     }

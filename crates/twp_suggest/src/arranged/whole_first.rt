@@ -2,7 +2,7 @@
 
 use crate::arranged::plan::Plan;
 use twp_asides::plus;
-use twp_draft::{LeftOut, Names, Placed, Role};
+use twp_draft::{LeftOut, PhraseKind, Placed, Role};
 use twp_grammar::Kind;
 
 impl<'a> Plan<'a> {
@@ -13,7 +13,7 @@ impl<'a> Plan<'a> {
             return;
         };
         if let Some(placed) = self.draft.phrases.get_mut(index) {
-            placed.phrase.names = Names::Nothing(LeftOut::Word);
+            placed.phrase.kind = PhraseKind::Nothing(LeftOut::Word);
             placed.role = Role::LeftOut;
         }
     }
@@ -21,12 +21,12 @@ impl<'a> Plan<'a> {
     /// The index of such a phrase.
     fn first_all(&self) -> Option<usize> {
         let phrases = self.draft.phrases.as_slice();
-        let index = first_of(phrases, Names::All)?;
+        let index = first_of(phrases, PhraseKind::All)?;
         let all = phrases.get(index)?.phrase;
         let section = phrases.get(plus(index, 1))?.phrase;
         let other = phrases.get(plus(index, 2))?.phrase;
-        let is_before_other = section.names == Names::Sections
-            && other.names == Names::Sections
+        let is_before_other = section.kind == PhraseKind::Sections
+            && other.kind == PhraseKind::Sections
             && matches!(self.draft.pieces.kind(all.end), Kind::Of)
             && section.first == plus(all.end, 1);
         if is_before_other && ends_with_land(phrases) {
@@ -38,11 +38,11 @@ impl<'a> Plan<'a> {
 }
 
 /// The index of the first phrase that isn't left out, or a township, if it names this.
-fn first_of(phrases: &[Placed], names: Names) -> Option<usize> {
+fn first_of(phrases: &[Placed], kind: PhraseKind) -> Option<usize> {
     for index in 0..phrases.len() {
-        let found = phrases[index].phrase.names;
-        if !matches!(found, Names::Nothing(_) | Names::Heading) {
-            return if found == names { Some(index) } else { None };
+        let found = phrases[index].phrase.kind;
+        if !matches!(found, PhraseKind::Nothing(_) | PhraseKind::Heading) {
+            return if found == kind { Some(index) } else { None };
         }
     }
     None
@@ -51,9 +51,9 @@ fn first_of(phrases: &[Placed], names: Names) -> Option<usize> {
 /// Whether the last phrase that isn't left out, or a township, is of land.
 fn ends_with_land(phrases: &[Placed]) -> bool {
     for placed in phrases.iter().rev() {
-        match placed.phrase.names {
-            Names::Nothing(_) | Names::Heading => {}
-            Names::Part | Names::Lots => return true,
+        match placed.phrase.kind {
+            PhraseKind::Nothing(_) | PhraseKind::Heading => {}
+            PhraseKind::Part | PhraseKind::Lots => return true,
             _ => return false,
         }
     }

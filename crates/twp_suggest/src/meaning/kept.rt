@@ -1,9 +1,10 @@
 //! What a changed text keeps, and what it takes away, if it excepts land: its first exception, and its divisions.
 ghost use Rattle.std.specs.Prelude.{◌≡◌, ◌≢◌, ◌≤◌, ◌<◌, ◌++◌, ◌∷◌, [], ℕ, IfOk, IfSome, MatchBool, MatchOption, OnOk};
 ghost use Rattle.std.specs.Prelude.{drop, length, slice_index, take};
-ghost use Rattle.twp_suggest.specs.Excepting.{HasNoExceptBefore, HasNoSemicolon, IsDivided, IsSplit, alone, blanks};
+ghost use Rattle.twp_suggest.specs.Excepting.{HasNoExceptBefore, HasNoSemicolon, IsDivided};
+ghost use Rattle.twp_suggest.specs.Excepting.{AreAroundExcept, alone, blanks};
 ghost use Rattle.twp_suggest.specs.Excepting.{except, kept, semicolon, taken, without};
-ghost use Rattle.twp_suggest.specs.steps.ExceptingSteps.{IsAdded};
+ghost use Rattle.twp_suggest.specs.steps.ExceptingSteps.{IsDivisionAdded};
 
 use std::alloc::{AllocError, Global};
 
@@ -81,7 +82,7 @@ fn add_division(
     mark: u8,
 ) -> Result<u8, AllocError>
     requires { HasNoSemicolon text.now }
-    ensures { IfOk result (λ after. IsAdded text.now mark after whole.old.items whole.new.items
+    ensures { IfOk result (λ after. IsDivisionAdded text.now mark after whole.old.items whole.new.items
         excepted.old.items excepted.new.items) }
 {
     match around_except(text) {
@@ -177,7 +178,7 @@ fn before_semicolon(text: &[u8]) -> usize
 /// The texts before the first `except` and after it.
 pub(crate) fn around_except(text: &[u8]) -> Option<Excepting<'_>>
     ensures { MatchOption result (HasNoExceptBefore text.now (length text.now))
-        (λ parts. IsSplit text.now parts.whole.now parts.excepted.now) }
+        (λ parts. AreAroundExcept text.now parts.whole.now parts.excepted.now) }
 {
     for at in 0..text.len() {
         if let Some(parts) = split_at_except(text, at) {

@@ -5,9 +5,9 @@ ghost use Rattle.twp_grid.specs.Lands.{lotting};
 ghost use Rattle.twp_grid.specs.Townships.{Designation};
 ghost use Rattle.twp_suggest.specs.Descriptions.{IsOnlyLandOfText, IsSomeLandOfItems, NamesNoLand, NamesTownship};
 
-use crate::meaning::named::{find_with_lots, why_unread};
+use crate::meaning::named::{find_with_lots, why_no_reading};
+use crate::meaning::no_reading::NoReading;
 use crate::meaning::on_plat::{first_township, read};
-use crate::meaning::unread::Unread;
 use std::alloc::{AllocError, Global};
 use twp_grammar::Item;
 use twp_grid::Township;
@@ -45,7 +45,7 @@ pub(crate) fn find_some_land<P: Lotting>(
     township: Township,
     land: &mut Lanes,
     lots: &P,
-) -> Result<(), Unread>
+) -> Result<(), NoReading>
     ensures land { OnOk result (IsSomeLandOfItems (lotting (P.layout lots.now)) township description.now
         (⟦<Lanes as PlaceSet>⟧.places land.new)) }
     ensures off_plat { IfErr result (λ _. ¬ AreOnPlat (lotting (P.layout lots.now)) township description.now) }
@@ -59,7 +59,7 @@ pub(crate) fn find_some_land<P: Lotting>(
             return Ok(());
         }
     }
-    Err(why_unread(description, lots))
+    Err(why_no_reading(description, lots))
 }
 
 /// Whether a description begins with this township, or names none.

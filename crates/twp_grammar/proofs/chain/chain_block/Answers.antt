@@ -3,8 +3,8 @@
 use Rattle.std.proofs.Common.{◌-◌, ◌∙◌, arith}
 use Rattle.std.proofs.lemmas.Option.{slice_get-get_or}
 use Rattle.twp_grid.specs.Places.{PLACE_DIGITS}
-use Rattle.twp_resolve.proofs.ChainFacts.{cut_next, cut_stuck}
-use Rattle.twp_resolve.proofs.chain.chain_block.Goals as goal
+use Rattle.twp_grammar.proofs.ChainFacts.{cut_next, cut_stuck}
+use Rattle.twp_grammar.proofs.chain.chain_block.Goals as goal
 
 pub returns-in_err-block-2 : goal.returns-in_err-block-2
 returns-in_err-block-2 c =

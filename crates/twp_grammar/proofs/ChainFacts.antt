@@ -21,7 +21,7 @@ use Rattle.twp_grammar.specs.declared.item.Step.{Step}
 use Rattle.twp_grammar.specs.declared.item.Item.TheVariants.{Chain}
 use Rattle.twp_grammar.specs.ItemPlaces.{cut_of, cuts_of, item_places}
 use Rattle.twp_grammar.specs.ItemPlaces.{item_of}
-use Rattle.twp_resolve.specs.steps.ResolvingSteps.{CanCut, IsCutTo}
+use Rattle.twp_grammar.specs.steps.CutSteps.{CanCut, IsCutTo}
 use Rattle.twp_grammar.proofs.CutPlaces.{more_left, more_than_one, outside}
 use Rattle.twp_grid.proofs.PlaceTests.{place_of_test}
 

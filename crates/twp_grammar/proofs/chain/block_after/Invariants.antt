@@ -1,7 +1,7 @@
 use Rattle.std.proofs.Common.{◌≤◌}
 use Rattle.twp_grid.specs.Places.{PLACE_DIGITS}
-use Rattle.twp_resolve.specs.steps.ResolvingSteps.{IsCutTo}
-use Rattle.twp_resolve.proofs.chain.block_after.Given as goal
+use Rattle.twp_grammar.specs.steps.CutSteps.{IsCutTo}
+use Rattle.twp_grammar.proofs.chain.block_after.Given as goal
 
 -- the steps so far, from the last one
 abbrev pub invariant-loop-index : goal.invariant-loop-index

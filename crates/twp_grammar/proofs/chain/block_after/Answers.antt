@@ -2,8 +2,8 @@
 -- small.
 use Rattle.std.proofs.Common.{◌≡◌, ◌-◌, Some, slice_get, sym, ◌∙◌, arith}
 use Rattle.twp_grid.specs.Places.{PLACE_DIGITS}
-use Rattle.twp_resolve.proofs.ChainFacts.{cut_none, cut_next, cut_stuck}
-use Rattle.twp_resolve.proofs.chain.block_after.Goals as goal
+use Rattle.twp_grammar.proofs.ChainFacts.{cut_none, cut_next, cut_stuck}
+use Rattle.twp_grammar.proofs.chain.block_after.Goals as goal
 
 pub loop-index-init : goal.loop-index-init
 loop-index-init c = record {
