@@ -40,10 +40,10 @@ impl WholeSections {
         ensures places { IsTrue result → ⟦<WholeSections as PlaceSet>⟧.places self.new
             ≡ union (⟦<WholeSections as PlaceSet>⟧.places self.old) (section_places STANDARD_LOTS section) }
     {
-        let index = usize::from(section.number() - 1);
-        if self.held[index] {
+        if self.has(section) {
             return false;
         }
+        let index = usize::from(section.number() - 1);
         self.held[index] = true;
         self.reach.widen(index, index + 1);
         true
@@ -98,7 +98,10 @@ impl PlaceSet for WholeSections {
 
     #[inline]
     fn is_untouched(&self, section: Section) -> bool {
-        !self.has(section)
+        if self.has(section) {
+            return false;
+        }
+        true
     }
 
     #[inline]

@@ -33,29 +33,41 @@ impl Model for LineStart {
 
 impl LineStart {
     /// The start of the first line, after the heading's line, or that of a later one, after the end
-    /// of the previous line; both without the section's number.
+    /// of the previous line; both with the section's number. It is filled in place, since a copy would
+    /// take as many instructions as the text.
     #[inline(always)]
-    pub(crate) fn new(township: Township, is_first: bool) -> LineStart
-        ensures first { is_first ≡ true → result ≡ heading_line township ++ codes "sec. " }
-        ensures after { is_first ≡ false → result ≡ (codes ";" ++ line_end) ++ codes "sec. " }
-        ensures room { length result + NUMBER_MOST ≤ START_MOST }
+    pub(crate) fn fill(&mut self, township: Township, is_first: bool, number: u8)
+        requires { self.old ≡ [] }
+        ensures first { is_first ≡ true
+            → self.new ≡ heading_line township ++ (codes "sec. " ++ decimal number) }
+        ensures after { is_first ≡ false
+            → self.new ≡ (codes ";" ++ line_end) ++ (codes "sec. " ++ decimal number) }
     {
-        let mut start = LineStart::empty();
-        if !is_first {
-            start.push(b";\nsec. ");
-            return start;
+        if is_first {
+            self.push_heading(township);
+        } else {
+            self.push(b";\nsec. ");
         }
-        start.push(b"T. ");
-        start.push_number(township.number());
-        start.push(after_number(township.north_south()));
-        start.push_number(township.range());
-        start.push(after_range(township.east_west()));
-        start
+        self.push_number(number);
+    }
+
+    /// Adds the heading's line, and the text before a section's number.
+    #[inline(always)]
+    fn push_heading(&mut self, township: Township)
+        requires { self.old ≡ [] }
+        ensures text { self.new ≡ heading_line township ++ codes "sec. " }
+        ensures room { length self.new + NUMBER_MOST ≤ START_MOST }
+    {
+        self.push(b"T. ");
+        self.push_number(township.number());
+        self.push(after_number(township.north_south()));
+        self.push_number(township.range());
+        self.push(after_range(township.east_west()));
     }
 
     /// Nothing yet.
     #[inline(always)]
-    fn empty() -> LineStart
+    pub(crate) fn empty() -> LineStart
         ensures { result ≡ [] }
     {
         LineStart {
@@ -77,7 +89,7 @@ impl LineStart {
 
     /// Adds a number in decimal.
     #[inline(always)]
-    pub(crate) fn push_number(&mut self, number: u8)
+    fn push_number(&mut self, number: u8)
         requires { length self.old + NUMBER_MOST ≤ START_MOST }
         ensures text { self.new ≡ self.old ++ decimal number }
         ensures most { length self.new ≤ length self.old + NUMBER_MOST }
