@@ -15,13 +15,14 @@ use crate::relation::Relation;
 use crate::row::Lane;
 use twp_grid::{PLACES_ACROSS, SECTIONS, Section, lot_count};
 
-/// How many sections are looked at in one step of a loop, which is unrolled so far.
-const AT_A_TIME: usize = 4;
+/// How many sections a tier has.
+const TIER: usize = 6;
 
 /// How a set of places compares to another. `None` if either contains part of a lot.
 ///
 /// Most land is in few sections. So one pass looks for the sections in which either set has a
-/// place, and only in these it looks at the lots and compares the sets.
+/// place, and only in these it looks at the lots and compares the sets. The loop over the sections of
+/// a tier is unrolled when it is compiled.
 pub fn compare_rows(rows: &LandRows, other: &LandRows) -> Option<Comparison>
     ensures { MatchOption result
         (¬ HaveWholeLots STANDARD_LOTS (land_of_rows rows.now) (land_of_rows other.now))
@@ -34,9 +35,9 @@ pub fn compare_rows(rows: &LandRows, other: &LandRows) -> Option<Comparison>
         is_contained: true,
         shares: false,
     };
-    for tier in 0..SECTIONS as usize / AT_A_TIME {
-        for place in 0..AT_A_TIME {
-            let index = AT_A_TIME * tier + place;
+    for tier in 0..SECTIONS as usize / TIER {
+        for place in 0..TIER {
+            let index = TIER * tier + place;
             if are_empty(&rows[index], &other[index]) {
                 continue;
             }
