@@ -110,11 +110,11 @@ fn area_of_whole(plat: &Plat, description: &Description, account: Account) -> Re
     ensures { (text : List ℕ) → IsReadAs text description.now
         → AnswersOn (HasAreaOn plat.now text account) plat.now text result }
 {
-    let mut land = WholeSections::empty();
-    if !resolve_whole(&mut land, description, plat.township()) {
+    let mut sections = WholeSections::empty();
+    if !resolve_whole(&mut sections, description, plat.township()) {
         return area_in_all(plat, description, account);
     }
-    Ok(area_by(account, plat, &land))
+    Ok(area_by(account, plat, &sections))
 }
 
 /// The same in however many sections it names land. The set of land is cleared where this function
@@ -157,11 +157,11 @@ fn normal_of_whole(alloc: Global, plat: &Plat, description: &Description) -> Res
     ensures { (text : List ℕ) → IsReadAs text description.now
         → AnswersOn (λ written. HasNormalOn plat.now text written.items) plat.now text result }
 {
-    let mut land = WholeSections::empty();
-    if !resolve_whole(&mut land, description, plat.township()) {
+    let mut sections = WholeSections::empty();
+    if !resolve_whole(&mut sections, description, plat.township()) {
         return normal_in_all(alloc, plat, description);
     }
-    Ok(spell_set(alloc, &land, plat.township(), &StandardLots)?)
+    Ok(spell_set(alloc, &sections, plat.township(), &StandardLots)?)
 }
 
 /// The same in however many sections it names land, as for its area.

@@ -32,32 +32,19 @@ impl Model for LineStart {
 }
 
 impl LineStart {
-    /// The start of the first line, after the heading's line, or that of a later one, after the end
-    /// of the previous line; both with the section's number. It is filled in place, since a copy would
-    /// take as many instructions as the text.
+    /// Begins the first line, after the heading's line, or a later one, after the end of the previous
+    /// line; both without the section's number. It is filled in place, since returning it would copy it.
     #[inline(always)]
-    pub(crate) fn fill(&mut self, township: Township, is_first: bool, number: u8)
+    pub(crate) fn begin(&mut self, township: Township, is_first: bool)
         requires { self.old ≡ [] }
-        ensures first { is_first ≡ true
-            → self.new ≡ heading_line township ++ (codes "sec. " ++ decimal number) }
-        ensures after { is_first ≡ false
-            → self.new ≡ (codes ";" ++ line_end) ++ (codes "sec. " ++ decimal number) }
-    {
-        if is_first {
-            self.push_heading(township);
-        } else {
-            self.push(b";\nsec. ");
-        }
-        self.push_number(number);
-    }
-
-    /// Adds the heading's line, and the text before a section's number.
-    #[inline(always)]
-    fn push_heading(&mut self, township: Township)
-        requires { self.old ≡ [] }
-        ensures text { self.new ≡ heading_line township ++ codes "sec. " }
+        ensures first { is_first ≡ true → self.new ≡ heading_line township ++ codes "sec. " }
+        ensures after { is_first ≡ false → self.new ≡ (codes ";" ++ line_end) ++ codes "sec. " }
         ensures room { length self.new + NUMBER_MOST ≤ START_MOST }
     {
+        if !is_first {
+            self.push(b";\nsec. ");
+            return;
+        }
         self.push(b"T. ");
         self.push_number(township.number());
         self.push(after_number(township.north_south()));
@@ -89,7 +76,7 @@ impl LineStart {
 
     /// Adds a number in decimal.
     #[inline(always)]
-    fn push_number(&mut self, number: u8)
+    pub(crate) fn push_number(&mut self, number: u8)
         requires { length self.old + NUMBER_MOST ≤ START_MOST }
         ensures text { self.new ≡ self.old ++ decimal number }
         ensures most { length self.new ≤ length self.old + NUMBER_MOST }

@@ -88,7 +88,8 @@ fn write_lead(township: Township, section: Section, text: &mut Vec<u8>) -> Resul
         ≡ (text.old.items ++ (codes ";" ++ line_end)) ++ (codes "sec. " ++ decimal section)) }
 {
     let mut start = LineStart::empty();
-    start.fill(township, text.is_empty(), section.number());
+    start.begin(township, text.is_empty());
+    start.push_number(section.number());
     start.append_to(text)
 }
 
