@@ -1,14 +1,16 @@
 //! The land of a description that names whole sections alone.
-ghost use Rattle.std.specs.Prelude.{◌≡◌, ◌≤◌, ℕ, IsTrue};
+ghost use Rattle.std.specs.Prelude.{◌≤◌, ℕ, IsTrue, true};
 ghost use Rattle.twp_grid.specs.Townships.{Designation};
 ghost use Rattle.twp_grid.specs.Winding.{IsSection};
 ghost use Rattle.twp_grid.specs.Lands.{HasWholeLots, STANDARD_LOTS};
 ghost use Rattle.twp_grammar.specs.OnPlat.{IsLandOfItems};
+ghost use Rattle.twp_grammar.specs.declared.item.Item.TheVariants.{Sections};
 ghost use Rattle.twp_resolve.specs.steps.ResolvingSteps.{IsItemTaken, AreAdded, sections_from};
 
+use crate::ranges::section_of;
 use crate::resolving::resolve_heading;
-use twp_grammar::Item;
-use twp_grid::{SECTIONS, Section, Township};
+use twp_grammar::{Item, Numeral};
+use twp_grid::{Section, Township};
 use twp_land::{PlaceSet, WholeSections};
 use twp_read::Description;
 
@@ -55,7 +57,7 @@ fn add_item(land: &mut WholeSections, item: &Item, township: Township) -> bool
             east_west,
             at,
         } => resolve_heading(*number, *north_south, *range, *east_west, *at, township).is_ok(),
-        Item::Sections { first, last, whole } => *whole && add_run(land, first.value, last.value),
+        Item::Sections { first, last, whole } => *whole && add_run(land, *first, *last),
         Item::Lots { .. } | Item::Chain { .. } | Item::All { .. } => false,
     }
 }
@@ -63,16 +65,36 @@ fn add_item(land: &mut WholeSections, item: &Item, township: Township) -> bool
 /// Adds the sections from a first number to a last, if there are such sections and the set contains none of
 /// them, and returns whether that is so.
 #[inline(always)]
-fn add_run(land: &mut WholeSections, first: u16, last: u16) -> bool
-    ensures range { IsTrue result → IsSection first × IsSection last × (first ≤ last) }
-    ensures added { IsTrue result → AreAdded (sections_from STANDARD_LOTS first last)
+fn add_run(land: &mut WholeSections, first: Numeral, last: Numeral) -> bool
+    ensures { IsTrue result → (township : Designation) (section : ℕ)
+        → IsItemTaken STANDARD_LOTS township section (Sections first last true)
         (⟦<WholeSections as PlaceSet>⟧.places land.old) (⟦<WholeSections as PlaceSet>⟧.places land.new) }
 {
-    if first == 0 || last < first || last > u16::from(SECTIONS) {
+    let Ok(from) = section_of(first) else {
+        return false;
+    };
+    let Ok(to) = section_of(last) else {
+        return false;
+    };
+    if last.value < first.value {
         return false;
     }
+    add_sections(land, from.number(), to.number())
+}
+
+/// Adds the sections from a first number to a last, if the set contains none of them, and returns whether
+/// that is so.
+#[inline(always)]
+fn add_sections(land: &mut WholeSections, first: u8, last: u8) -> bool
+    requires first { IsSection first }
+    requires last { IsSection last }
+    requires order { first ≤ last }
+    ensures { IsTrue result → AreAdded (sections_from STANDARD_LOTS first last)
+        (⟦<WholeSections as PlaceSet>⟧.places land.old) (⟦<WholeSections as PlaceSet>⟧.places land.new) }
+{
     for number in first..last + 1 {
-        if !land.add_whole(Section::new(number as u8).unwrap()) {
+        let section = Section::new(number).unwrap();
+        if !land.add_whole(section) {
             return false;
         }
     }
