@@ -1,6 +1,6 @@
 #!/bin/sh
 # Prints how many instructions a call of the library takes: notes to a plat, and on a kept plat descriptions of one
-# part, of lots and parts in two and in three sections, of parts in three sections, of three whole sections, of land named
+# part, of lots and parts in two and three sections, of parts in three sections, of three whole sections, of land named
 # twice, and of 50 and 100 parts; the canonical text of five of them; a description to land, and land of one section
 # combined with other land and compared to it; the readings of texts; and calls by lot tables. A count is that of 2,000
 # calls less that of 1,000, by valgrind's callgrind. Beside it are the count in bench/expected-library and the ratio of
