@@ -1,13 +1,13 @@
 /*
  * Makes one call of the library again and again, for bench/library.sh: `library NOTES CALL COUNT`. CALL is `read`
  * (notes to a plat), or a description on the kept plat: `one` part, `two` sections, `three` sections, three `whole`
- * sections, an `overlap` that is refused, `fifty` or `hundred` parts; or its canonical text: `text-one`, `text-three`;
- * or `land` (one part to land), or `combine` or `compare` (land of one section with other land); or the readings of a
- * description (`same`), of a text as leases have it (`a lease`), or of white space between two parts (`ways`). If CALL
- * begins with `table-`, NOTES is a lot table: `table-read`; the acres by it of two sections with lots and a part
- * (`table-two`), or of three whole sections (`table-whole`); or `table-land` or `table-text` (the land of the former,
- * or its canonical text). Prints the sum of the calls' answers, so that no call is optimized away, and their processor
- * time in seconds.
+ * sections, lots and parts in three sections (`mixed`), an `overlap` that is refused, `fifty` or `hundred` parts; or
+ * the canonical text of one of these, as `text-one`; or `land` (one part to land), or `combine` or `compare` (land of
+ * one section with other land); or the readings of a description (`same`), of a text as leases have it (`a lease`), or
+ * of white space between two parts (`ways`). If CALL begins with `table-`, NOTES is a lot table: `table-read`; the
+ * acres by it of two sections with lots and a part (`table-two`), or of three whole sections (`table-whole`); or
+ * `table-land` or `table-text` (the land of the former, or its canonical text). Prints the sum of the calls' answers,
+ * so that no call is optimized away, and their processor time in seconds.
  */
 #include "township.h"
 
@@ -38,6 +38,7 @@ static size_t description_of(const char *call) {
         {"two", "T. 2 N., R. 3 W., sec. 5, lots 1 and 2, S1/2NE1/4; sec. 14, NE1/4."},
         {"three", "T. 2 N., R. 3 W., sec. 8, SE1/4SE1/4; sec. 14, N1/2, SE1/4; sec. 23, N1/2NE1/4, SW1/4."},
         {"whole", "secs. 14, 15, and 23."},
+        {"mixed", "sec. 5, lots 1 and 2, S1/2NE1/4; sec. 14, NE1/4; sec. 20, S1/2NW1/4, SE1/4."},
         {"table-two", "sec. 5, lots 1 and 2, S1/2NE1/4; sec. 14, SE1/4."},
         {"table-whole", "secs. 14, 15, and 23."},
         {"overlap", "sec. 14, NE1/4 and N1/2."},
@@ -60,12 +61,16 @@ static uint64_t on_land(const char *call, long count) {
 
     township_land_read(&here, north, sizeof north - 1, &first);
     township_land_read(&here, corner, sizeof corner - 1, &second);
-    for (long done = 0; done < count; done++) {
-        if (strcmp(call, "land") == 0) {
+    if (strcmp(call, "land") == 0) {
+        for (long done = 0; done < count; done++) {
             sum += township_land_read(&here, corner, sizeof corner - 1, &made).verdict + made.rows[13][31];
-        } else if (strcmp(call, "combine") == 0) {
+        }
+    } else if (strcmp(call, "combine") == 0) {
+        for (long done = 0; done < count; done++) {
             sum += township_land_combine(&first, &second, TOWNSHIP_DIFFERENCE, &made).verdict + made.rows[13][31];
-        } else {
+        }
+    } else {
+        for (long done = 0; done < count; done++) {
             sum += township_land_compare(&first, &second, &comparison).verdict + comparison;
         }
     }

@@ -122,6 +122,17 @@ fn compared_places(first: &TownshipLand, second: &TownshipLand) -> Option<Compar
     if first.own_lots == 0 && second.own_lots == 0 {
         return compare_rows(&first.rows, &second.rows);
     }
+    compared_in_lanes(first, second)
+}
+
+/// The same, of land on plats with any lots. Inlined, it would take room on the stack for its sets of places
+/// in each call.
+#[inline(never)]
+fn compared_in_lanes(first: &TownshipLand, second: &TownshipLand) -> Option<Comparison>
+    ensures { MatchOption result (¬ (AreLotsValid first.now × AreLotsValid second.now))
+        (λ comparison. AreLotsValid first.now × AreLotsValid second.now
+        × Compares comparison (land_of_rows first.now.rows) (land_of_rows second.now.rows)) }
+{
     if !first.are_lots_valid() || !second.are_lots_valid() {
         return None;
     }

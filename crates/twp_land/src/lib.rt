@@ -1,6 +1,6 @@
 //! Land: sets of places in a township. The trait `PlaceSet` says what each such set does, and the trait
 //! `Land` what else a set does that has room for all sections. `Grid` stores a test for each place, and
-//! `Lanes` a bit. `OneLanes` has room for the places of one section.
+//! `Lanes` a bit. `OneLanes` has room for the places of one section, and `WholeSections` for whole sections.
 #![tactic(auto)]
 
 mod comparing;
@@ -24,6 +24,7 @@ mod row_comparing;
 mod rows;
 mod sections;
 mod whole_lots;
+mod whole_sections;
 
 pub use comparing::{Comparison, compare};
 pub use dividing::map_of_marks;
@@ -43,3 +44,4 @@ pub use row_comparing::compare_rows;
 pub use rows::{Grid, Rows};
 pub use sections::Sections;
 pub use whole_lots::has_whole_lots_on;
+pub use whole_sections::WholeSections;

@@ -10,10 +10,10 @@ use crate::plot::Plot;
 use twp_grid::{Block, SECTIONS, Section};
 
 /// One set for each section.
-const SETS: usize = SECTIONS as usize;
+pub(crate) const SETS: usize = SECTIONS as usize;
 
 /// The range of no sets.
-const NOWHERE: Reach = Reach {
+pub(crate) const NOWHERE: Reach = Reach {
     first: SETS,
     end: 0,
 };

@@ -179,7 +179,7 @@ fn check_order(first: Numeral, last: Numeral) -> Result<(), PlaceFault>
 }
 
 /// The section with a number.
-fn section_of(number: Numeral) -> Result<Section, PlaceFault>
+pub(crate) fn section_of(number: Numeral) -> Result<Section, PlaceFault>
     ensures { MatchResult result (λ section. (section ≡ number.value) × IsSection number.value)
         (λ fault. (fault ≡ PlaceFault.NoSection number.at) × ¬ IsSection number.value) }
 {

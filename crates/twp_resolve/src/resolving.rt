@@ -127,7 +127,7 @@ pub(crate) fn resolve_item<L: PlaceSet, P: Lotting>(
 }
 
 /// Resolves a heading: it names the township of the plat, or it is refused.
-fn resolve_heading(
+pub(crate) fn resolve_heading(
     number: u16,
     north_south: NorthSouth,
     range: u16,

@@ -87,7 +87,8 @@ fn write_lead(township: Township, section: Section, text: &mut Vec<u8>) -> Resul
     ensures after { ¬ (text.old.items ≡ []) → OnOk result (text.new.items
         ≡ (text.old.items ++ (codes ";" ++ line_end)) ++ (codes "sec. " ++ decimal section)) }
 {
-    let mut start = LineStart::new(township, text.is_empty());
+    let mut start = LineStart::empty();
+    start.begin(township, text.is_empty());
     start.push_number(section.number());
     start.append_to(text)
 }
