@@ -317,12 +317,18 @@ impl<'a> Pieces<'a> {
         white.unwrap_or(b"").contains(&byte)
     }
 
-    /// Whether the piece at an index is a hyphen or a dash.
+    /// Whether the piece at an index is a hyphen or a dash. Most pieces are of another kind.
+    #[inline(always)]
     pub fn is_dash(&self, index: usize) -> bool {
-        matches!(self.kind(index), Kind::BadByte)
-            && (self.is(index, b"-")
-                || self.is(index, b"\xE2\x80\x93")
-                || self.is(index, b"\xE2\x80\x94"))
+        matches!(self.kind(index), Kind::BadByte) && self.is_mark_of_dash(index)
+    }
+
+    /// The same for a mark.
+    #[inline(never)]
+    fn is_mark_of_dash(&self, index: usize) -> bool {
+        self.is(index, b"-")
+            || self.is(index, b"\xE2\x80\x93")
+            || self.is(index, b"\xE2\x80\x94")
     }
 
     /// The value of the number at an index.
