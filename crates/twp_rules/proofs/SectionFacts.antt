@@ -1,16 +1,50 @@
--- Only sections decide where land lies; over plain values.
-use Rattle.std.proofs.Common.{◌≡◌, true, List, [], ◌∷◌, ℕ, refl, Option, None, Some, length}
-use Rattle.twp_rules.specs.Arrangement.{has_no_other, lie_from, lies, lies_after, lies_before}
+-- Only sections decide where land lies, each of them once; over plain values.
+use Rattle.std.proofs.Common.{◌≡◌, ◌==◌, ◌&&◌, ◌++◌, Bool, true, false, List, [], ◌∷◌, ℕ, refl, sym}
+use Rattle.std.proofs.Common.{Option, None, Some, length, if◌then◌else◌}
+use Rattle.std.proofs.lemmas.Bool.{eqb-true}
+use Rattle.twp_rules.specs.Arrangement.{has_no_other, is_no_other, lie_from, lies, lies_after, lies_before}
 use Rattle.twp_rules.specs.declared.lying.Lying.{Lying}
 use Rattle.twp_rules.specs.declared.mark.Mark.{Mark}
 use Rattle.twp_rules.specs.declared.mark.Mark.TheVariants.{Section, Land}
-use Rattle.twp_rules.specs.steps.Sections.{sections_of}
+use Rattle.twp_rules.specs.steps.Sections.{begins_with_section, sections_of}
+use Rattle.twp_rules.proofs.SameTexts.{both}
+
+-- a fact twice is as good as once
+twice : (x y : Bool) → (x && y) ≡ (x && (x && y))
+twice true y = refl
+twice false y = refl
+
+-- a section that is named again rules out as much as once
+again : (text : List ℕ) (it : Lying) (from to number place : ℕ) (marks : List Mark)
+    → begins_with_section number place marks ≡ true
+    → has_no_other text it from to marks
+    ≡ (is_no_other text it from to (Section number place) && has_no_other text it from to marks)
+again text it from to number place [] is = cc is
+again text it from to number place (Land spot ∷ marks) is = cc is
+again text it from to number place (Section next spot ∷ marks) is =
+    let parts = both (next == number) (spot == place) is in
+    let e : next ≡ number = eqb-true next number parts.0 in
+    let f : spot ≡ place = eqb-true spot place parts.1 in
+    rw (e, f)
+    (twice (is_no_other text it from to (Section number place)) (has_no_other text it from to marks))
+
+with_section : (text : List ℕ) (it : Lying) (from to number place : ℕ) (marks : List Mark) (is_next : Bool)
+    → begins_with_section number place marks ≡ is_next
+    → has_no_other text it from to (sections_of marks) ≡ has_no_other text it from to marks
+    → has_no_other text it from to
+    ((if is_next then [] else Section number place ∷ []) ++ sections_of marks)
+    ≡ (is_no_other text it from to (Section number place) && has_no_other text it from to marks)
+with_section text it from to number place marks true e rest =
+    rw rest (again text it from to number place marks e)
+with_section text it from to number place marks false e rest = rw rest refl
 
 -- land is no other section
 same_others : (text : List ℕ) (it : Lying) (from to : ℕ) (marks : List Mark)
     → has_no_other text it from to (sections_of marks) ≡ has_no_other text it from to marks
 same_others text it from to [] = refl
-same_others text it from to (Section number place ∷ marks) = rw (same_others text it from to marks) refl
+same_others text it from to (Section number place ∷ marks) =
+    with_section text it from to number place marks (begins_with_section number place marks) refl
+    (same_others text it from to marks)
 same_others text it from to (Land place ∷ marks) = same_others text it from to marks
 
 same_after : (text : List ℕ) (all : List Mark) (last : Option Lying) (it : Lying)

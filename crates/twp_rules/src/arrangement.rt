@@ -5,7 +5,7 @@ ghost use Rattle.twp_rules.specs.Arrangement.{is_colon, is_no_other};
 ghost use Rattle.twp_rules.specs.Arrangement.{is_number_with_colon, is_one_list, leads_to};
 ghost use Rattle.twp_rules.specs.Arrangement.{lie_from, lie_with_sections, lies, lies_after, lies_before};
 ghost use Rattle.twp_rules.specs.Changes.{seen};
-ghost use Rattle.twp_rules.specs.steps.Sections.{section_in, sections_of};
+ghost use Rattle.twp_rules.specs.steps.Sections.{begins_with_section, section_before, sections_of};
 
 use crate::alone::is_alone;
 use crate::apart::is_blank;
@@ -51,26 +51,45 @@ pub fn lie_with_sections(
 }
 
 /// The sections among marks. They are compared with each piece of land, and land with none, so a list of them alone
-/// saves most of the comparisons.
+/// saves most of the comparisons. A single section is named twice, as the first and the last of a list.
 fn sections_of(alloc: Global, marks: &[Mark]) -> Result<Vec<Mark>, AllocError>
     ensures { IfOk result (λ it. it.items ≡ sections_of marks.now) }
 {
     let mut sections = Vec::with_capacity(alloc, marks.len())?;
-    for mark in marks {
-        add_section(*mark, &mut sections)?;
+    let mut left = marks;
+    while let [mark, more @ ..] = left {
+        add_section(*mark, more, &mut sections)?;
+        left = more;
     }
     Ok(sections)
 }
 
-/// Adds a mark to sections, if it is one.
-fn add_section(mark: Mark, sections: &mut Vec<Mark>) -> Result<(), AllocError>
-    ensures { IfOk result (λ _. sections.new.items ≡ sections.old.items ++ section_in mark) }
+/// Adds a mark before others to sections, if it is one, and the next one isn't the same.
+fn add_section(mark: Mark, more: &[Mark], sections: &mut Vec<Mark>) -> Result<(), AllocError>
+    ensures { IfOk result (λ _. sections.new.items ≡ sections.old.items ++ section_before mark more.now) }
 {
     match mark {
-        Mark::Section(number, place) => sections.push(Mark::Section(number, place))?,
+        Mark::Section(number, place) => {
+            if !begins_with_section(number, place, more) {
+                sections.push(Mark::Section(number, place))?;
+            }
+        }
         Mark::Land(_) => {}
     }
     Ok(())
+}
+
+/// Whether the first of some marks is this section.
+fn begins_with_section(number: u16, place: usize, marks: &[Mark]) -> bool
+    ensures { result ≡ begins_with_section number place marks.now }
+{
+    match marks {
+        [mark, ..] => match *mark {
+            Mark::Section(next, spot) => next == number && spot == place,
+            Mark::Land(_) => false,
+        },
+        [] => false,
+    }
 }
 
 /// Whether all land lies with its section, of these sections.
