@@ -326,9 +326,7 @@ impl<'a> Pieces<'a> {
     /// The same for a mark.
     #[inline(never)]
     fn is_mark_of_dash(&self, index: usize) -> bool {
-        self.is(index, b"-")
-            || self.is(index, b"\xE2\x80\x93")
-            || self.is(index, b"\xE2\x80\x94")
+        self.is(index, b"-") || self.is(index, b"\xE2\x80\x93") || self.is(index, b"\xE2\x80\x94")
     }
 
     /// The value of the number at an index.

@@ -229,11 +229,7 @@ impl<'a> Finder<'a> {
     }
 
     /// What is left out at an index after land, if it is nothing that may be before land.
-    fn end_of_aside_after_land(
-        &self,
-        index: usize,
-        is_figure: bool,
-    ) -> Option<(LeftOut, usize)> {
+    fn end_of_aside_after_land(&self, index: usize, is_figure: bool) -> Option<(LeftOut, usize)> {
         let pieces = &self.draft.pieces;
         if is_figure {
             return self.end_of_last_number(index);
