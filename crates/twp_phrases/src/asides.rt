@@ -130,32 +130,13 @@ impl<'a> Finder<'a> {
                 return Some(found);
             }
         }
-        if let Some(end) = pieces.end_of_item_number(index) {
+        if let Some(end) = self.end_of_label_by_kind(index, is_figure) {
             return Some((LeftOut::Label, end));
         }
-        if let Some(end) = pieces.end_of_row_id(index) {
-            return Some((LeftOut::Label, end));
-        }
-        if let Some(end) = pieces.end_of_unit(index, self.names_land) {
-            return Some((LeftOut::Label, end));
-        }
-        let fixed = if self.names_land {
-            pieces
-                .end_of_words_after(index)
-                .or(pieces.end_of_tax_parcel(index))
-                .or(pieces.end_of_net(index))
-                .or(pieces.end_of_years(index))
-                .or(pieces.end_of_lettered_share(index))
-                .or(pieces.end_of_money(index))
-                .or(pieces.end_of_decimal_interest(index))
-        } else {
-            pieces.end_of_words_before(index)
-        };
-        if let Some(end) = fixed {
-            return Some((LeftOut::Label, end));
-        }
-        if let Some(end) = pieces.end_of_gross(index) {
-            return Some((LeftOut::Acreage, end));
+        if is_figure {
+            if let Some(end) = pieces.end_of_gross(index) {
+                return Some((LeftOut::Acreage, end));
+            }
         }
         if let Some(end) = pieces.end_of_acreage(index) {
             let is_after_dash = pieces.is_after_dash(index);
@@ -171,14 +152,17 @@ impl<'a> Finder<'a> {
                 Some((LeftOut::Acreage, end))
             };
         }
-        if let Some(end) = pieces.end_of_known_acreage(index) {
-            return Some((LeftOut::Acreage, end));
+        let is_mark = matches!(pieces.kind(index), Kind::BadByte);
+        if is_mark {
+            if let Some(end) = pieces.end_of_known_acreage(index) {
+                return Some((LeftOut::Acreage, end));
+            }
         }
         if let Some(end) = pieces.end_of_first_serial(index) {
             return Some((LeftOut::Label, end));
         }
         // A mark begins nothing else, but for the one after a question.
-        if matches!(pieces.kind(index), Kind::BadByte) && !pieces.is_question_mark(index) {
+        if is_mark && !pieces.is_question_mark(index) {
             return None;
         }
         if let Some(end) = pieces.end_of_meridian(index) {
@@ -190,25 +174,8 @@ impl<'a> Finder<'a> {
             }
         }
         if self.names_land {
-            let unsaid = pieces
-                .end_of_intent(index)
-                .or(pieces.end_of_tax_parcel(index))
-                .or(pieces.end_of_gross_acreage(index));
-            if let Some(end) = unsaid {
-                return Some((LeftOut::Label, end));
-            }
-            if self.draft.last_kind() != Some(PhraseKind::Sections) {
-                if let Some(end) = pieces.end_of_share_in_cell(index) {
-                    return Some((LeftOut::Label, end));
-                }
-            }
-            if let Some(end) = pieces.end_of_last_figure(index) {
-                if !self.may_be_wrong_section(index, end) {
-                    return Some((LeftOut::Acreage, end));
-                }
-            }
-            if let Some(end) = end_of_trailer(&self.draft.pieces, index) {
-                return Some((LeftOut::Label, end));
+            if let Some(found) = self.end_of_aside_after_land(index, is_figure) {
+                return Some(found);
             }
         }
         if is_figure && !pieces.begins_line(index) {
@@ -216,6 +183,83 @@ impl<'a> Finder<'a> {
         }
         let end = pieces.end_of_label(index)?;
         Some((LeftOut::Label, end))
+    }
+
+    /// Where a label at an index ends that is looked for before acreage. A word of two letters or more is no number of
+    /// a row or an item, and only a number is a share or a term.
+    fn end_of_label_by_kind(&self, index: usize, is_figure: bool) -> Option<usize> {
+        let pieces = &self.draft.pieces;
+        let is_word = matches!(pieces.kind(index), Kind::Other) && pieces.size(index) > 1;
+        if !is_word {
+            if let Some(end) = pieces.end_of_item_number(index) {
+                return Some(end);
+            }
+            if let Some(end) = pieces.end_of_row_id(index) {
+                return Some(end);
+            }
+        }
+        if let Some(end) = pieces.end_of_unit(index, self.names_land) {
+            return Some(end);
+        }
+        if !self.names_land {
+            return pieces.end_of_words_before(index);
+        }
+        if is_figure {
+            return self.end_of_figure_after_land(index);
+        }
+        if let Some(end) = pieces.end_of_words_after(index) {
+            return Some(end);
+        }
+        if let Some(end) = pieces.end_of_tax_parcel(index) {
+            return Some(end);
+        }
+        if let Some(end) = pieces.end_of_lettered_share(index) {
+            return Some(end);
+        }
+        pieces.end_of_money(index)
+    }
+
+    /// Where a net figure, a term of years, or a decimal interest at an index ends.
+    fn end_of_figure_after_land(&self, index: usize) -> Option<usize> {
+        let pieces = &self.draft.pieces;
+        if let Some(end) = pieces.end_of_net(index) {
+            return Some(end);
+        }
+        if let Some(end) = pieces.end_of_years(index) {
+            return Some(end);
+        }
+        pieces.end_of_decimal_interest(index)
+    }
+
+    /// What is left out at an index after land, if it is nothing that may be before land.
+    fn end_of_aside_after_land(&self, index: usize, is_figure: bool) -> Option<(LeftOut, usize)> {
+        let pieces = &self.draft.pieces;
+        if is_figure {
+            return self.end_of_last_number(index);
+        }
+        if let Some(end) = pieces.end_of_intent(index) {
+            return Some((LeftOut::Label, end));
+        }
+        if let Some(end) = pieces.end_of_gross_acreage(index) {
+            return Some((LeftOut::Label, end));
+        }
+        let end = end_of_trailer(pieces, index)?;
+        Some((LeftOut::Label, end))
+    }
+
+    /// What a number at an index is after land: a share in a cell, or acreage.
+    fn end_of_last_number(&self, index: usize) -> Option<(LeftOut, usize)> {
+        let pieces = &self.draft.pieces;
+        if self.draft.last_kind() != Some(PhraseKind::Sections) {
+            if let Some(end) = pieces.end_of_share_in_cell(index) {
+                return Some((LeftOut::Label, end));
+            }
+        }
+        let end = pieces.end_of_last_figure(index)?;
+        if self.may_be_wrong_section(index, end) {
+            return None;
+        }
+        Some((LeftOut::Acreage, end))
     }
 
     /// Whether a whole number after a township that isn't that of a section before it, with more of its row after
@@ -245,7 +289,8 @@ impl<'a> Finder<'a> {
     /// The same, of what begins with a word for a column, or with a mark.
     fn end_of_marked(&self, index: usize, may_be_minus: bool) -> Option<(LeftOut, usize)> {
         let pieces = &self.draft.pieces;
-        if let Some(end) = pieces.end_of_column_label(index) {
+        if matches!(pieces.kind(index), Kind::Other) {
+            let end = pieces.end_of_column_label(index)?;
             let is_part = pieces.is(plus(index, 1), b"part");
             let left_out = if is_part {
                 LeftOut::Heading
@@ -253,6 +298,9 @@ impl<'a> Finder<'a> {
                 LeftOut::Label
             };
             return Some((left_out, end));
+        }
+        if !matches!(pieces.kind(index), Kind::BadByte) {
+            return None;
         }
         if let Some(end) = self.end_of_figure(index) {
             return Some((LeftOut::Acreage, end));

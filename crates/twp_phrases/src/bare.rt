@@ -13,6 +13,9 @@ impl<'a> Finder<'a> {
     /// The section of a location, as in `S14 T2N R3W`.
     #[inline(never)]
     pub(crate) fn section_of_letter(&mut self, index: usize) -> Option<usize> {
+        if !self.draft.pieces.is(index, b"s") {
+            return None;
+        }
         let from = self.draft.checkpoint();
         let digits = self.digits_of_letter(index);
         let Some(number) = self.number_of_letter(index, digits) else {
@@ -61,8 +64,7 @@ impl<'a> Finder<'a> {
         let pieces = &self.draft.pieces;
         let next = plus(digits, 1);
         let has_stop = digits > plus(index, 1);
-        if !pieces.is(index, b"s")
-            || !(pieces.is_joined(digits) || has_stop || pieces.is_township_word(next))
+        if !(pieces.is_joined(digits) || has_stop || pieces.is_township_word(next))
             || (pieces.is_joined(next) && !pieces.is_after_tag(next))
         {
             return None;
