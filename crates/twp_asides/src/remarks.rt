@@ -13,6 +13,7 @@ use crate::notes::{
     is_of_company_name, is_of_long_figure, may_begin_note,
 };
 use crate::pieces::{Pieces, plus};
+use crate::plain::{is_plain_at, may_be_plain};
 use crate::remark_ends::{
     begins_named_value, begins_question, is_after_conveyance, is_after_record, is_end_of_question,
     is_end_of_sentence,
@@ -66,12 +67,13 @@ pub fn end_of_remark(pieces: &Pieces<'_>, index: usize, position: Position) -> O
         || is_homesite_of_acreage(pieces, index)
         || begins_question(pieces, index)
         || is_in_cell(pieces, index);
+    let mut is_plain = may_be_plain(pieces, index);
     let mut next = index;
     for place in index..plus(index, PIECES_MOST) {
-        let ends_note = is_sure && has_word && is_dash_after_note(pieces, place, position);
+        let ends_note = (is_sure || is_plain) && has_word && is_dash_after_note(pieces, place, position);
         let is_end = place >= pieces.len() || ends_note || ends_remark(pieces, place, position);
         if place > index && is_end {
-            if !has_word || !is_sure || !may_end_remark(pieces, index, place, position) {
+            if !has_word || !(is_sure || is_plain) || !may_end_remark(pieces, index, place, position) {
                 return None;
             }
             return Some(plus(place, usize::from(is_colon_of_remark(pieces, place))));
@@ -92,6 +94,7 @@ pub fn end_of_remark(pieces: &Pieces<'_>, index: usize, position: Position) -> O
             return None;
         }
         has_word = has_word || says_something(pieces, place);
+        is_plain = is_plain && is_plain_at(pieces, place);
         is_sure = is_sure || is_known_at(pieces, place) || is_of_long_figure(pieces, place);
     }
     None
@@ -347,10 +350,12 @@ fn end_of_parentheses(pieces: &Pieces<'_>, index: usize) -> Option<usize> {
         || begins_reference(first)
         || begins_terms(first)
         || after_acreage > next;
+    let mut is_plain = may_be_plain(pieces, next);
     for place in after_acreage..plus(after_acreage, PARENTHESES_MOST) {
         if pieces.is(place, mark) {
-            return if is_sure { Some(plus(place, 1)) } else { None };
+            return if is_sure || is_plain { Some(plus(place, 1)) } else { None };
         }
+        is_plain = is_plain && is_plain_at(pieces, place);
         is_sure = is_sure
             || is_known_at(pieces, place)
             || is_of_long_figure(pieces, place)

@@ -17,6 +17,7 @@ mod parties;
 mod properties;
 mod requests;
 mod same;
+mod short;
 mod steps;
 mod terms;
 
@@ -50,6 +51,7 @@ pub use parties::{
 pub use properties::{begins_property, is_of_property, names_property, points_into};
 pub use requests::{begins_request, is_of_request};
 pub use same::{are_corners, is_glued, is_one_of, is_same, size_of_character};
+pub use short::may_be_limit;
 pub use steps::{Size, written_step};
 pub use terms::{
     begins_terms, is_beyond_depths, is_beyond_terms, is_boundary, is_conveyance, is_of_depth,

@@ -1,0 +1,41 @@
+//! Plain words: nothing is known of them, but they neither limit land nor may be short for words that do.
+
+use crate::leads::is_sure_part;
+use crate::marks::is_known_at;
+use crate::notes::is_of_company_name;
+use crate::pieces::{Pieces, plus};
+use twp_grammar::Kind;
+use twp_words::{is_doubtful_title, is_feature, is_instrument, is_site, may_be_limit};
+
+/// Whether plain words may be left out beside land: a word begins at the index, and the text has no lots that may be of a
+/// town, whose name it would be.
+pub(crate) fn may_be_plain(pieces: &Pieces<'_>, index: usize) -> bool {
+    matches!(pieces.kind(index), Kind::Other)
+        && pieces.begins_with_letter(index)
+        && !has_only_lots(pieces)
+}
+
+/// Whether lots, and no aliquot part, are in a text: they may be those of a town.
+fn has_only_lots(pieces: &Pieces<'_>) -> bool {
+    let mut has_lots = false;
+    for index in 0..pieces.len() {
+        if matches!(pieces.kind(index), Kind::Corner(_)) || is_sure_part(pieces, index) {
+            return false;
+        }
+        has_lots = has_lots || matches!(pieces.kind(index), Kind::Lot) || pieces.is(index, b"l");
+    }
+    has_lots
+}
+
+/// Whether the piece at an index is plain: it isn't a word that may limit land, or that is for what lies in it.
+pub(crate) fn is_plain_at(pieces: &Pieces<'_>, index: usize) -> bool {
+    let word = pieces.lower(index);
+    let is_safe = is_known_at(pieces, index)
+        || is_instrument(word)
+        || is_of_company_name(pieces, index);
+    is_safe
+        || !(is_feature(word)
+            || is_site(word)
+            || is_doubtful_title(word)
+            || may_be_limit(word))
+}

@@ -1,0 +1,109 @@
+//! Words that nothing is known of, but that may be short for a word that bounds, excepts, divides, or limits land, or
+//! such a word with a slip.
+
+/// Words that bound, except, divide, or limit land, or are for what lies in it, by their first letter, from `a` on.
+const LIMITS: [&str; 26] = [
+    "above abutting access across adjacent adjoining along alongside approximately around",
+    "balance beach before beginning behind below beneath beside between beyond bisected block bordering boundary bounded bridge",
+    "canal centerline central commencing corner corrected creek crossing",
+    "deducting deleted described ditch divided downstream drain drive",
+    "easement easterly eastern elevation enclosed except excluding excess exempt",
+    "facing feet fenced former fraction fractional frontage",
+    "garden government ground",
+    "half highway homesite",
+    "improvements inside intersecting irrigated island",
+    "junction",
+    "keep",
+    "lakeshore lane lateral lesser less limited lower",
+    "marsh meander middle minus",
+    "nearest neighboring northerly northern northeast northwest",
+    "omitted opposite orchard other outside outlot over",
+    "parcel park partial parts perimeter pivot pond portion previously prior",
+    "quarry quarter",
+    "railroad railway remainder remaining reserved reservoir residue right river road roadway rods",
+    "said same save section separate shoreline slough southerly southern southeast southwest spring square strip subdivision surface surveyed",
+    "through thereof timber toward tract triangle triangular",
+    "undivided under unless unsurveyed upper",
+    "vacant vacated village",
+    "water well westerly western wetland within without",
+    "",
+    "yards",
+    "zone",
+];
+
+/// The fewest letters of a word that is compared with another for a slip.
+const SLIP_LEAST: usize = 5;
+
+/// Whether a word, in lowercase, may be short for one that limits land, or such a word with a slip: it has no vowel, or
+/// only letters of corners, or begins one, or differs from one in a letter.
+pub fn may_be_limit(word: &[u8]) -> bool {
+    let [first @ b'a'..=b'z', _, ..] = word else {
+        return false;
+    };
+    if *first == b'x' || !has_vowel(word) || is_like_corners(word) {
+        return true;
+    }
+    for limit in LIMITS[usize::from(*first - b'a')].split(' ') {
+        let limit = limit.as_bytes();
+        if limit.starts_with(word) || is_slip_of(word, limit) {
+            return true;
+        }
+    }
+    false
+}
+
+/// Whether a vowel is in a word: a `y` is one only between other letters, or in a short name, as in `Fry`.
+fn has_vowel(word: &[u8]) -> bool {
+    let is_vowel = |letter: &u8| matches!(*letter, b'a' | b'e' | b'i' | b'o' | b'u');
+    match word {
+        [front @ .., b'y'] if front.len() > 2 => front.iter().any(|letter| is_vowel(letter) || *letter == b'y'),
+        _ => word.iter().any(|letter| is_vowel(letter) || *letter == b'y'),
+    }
+}
+
+/// Whether a word has only letters of corners, as scanning leaves them, as in `NVVNE`.
+fn is_like_corners(word: &[u8]) -> bool {
+    word.iter()
+        .all(|letter| matches!(*letter, b'n' | b's' | b'e' | b'w' | b'v'))
+}
+
+/// Whether a word is another with one letter missing, too many, or wrong, or with two letters in each other's place.
+fn is_slip_of(word: &[u8], other: &[u8]) -> bool {
+    if word.len() < SLIP_LEAST || other.len() < SLIP_LEAST {
+        return false;
+    }
+    let front = common_front(word, other);
+    let (mine, theirs) = (&word[front..], &other[front..]);
+    match (mine, theirs) {
+        ([], _) => theirs.len() <= 1,
+        (_, []) => mine.len() <= 1,
+        ([one, rest @ ..], [first, last @ ..]) => {
+            rest == theirs
+                || mine == last
+                || rest == last
+                || is_exchanged(*one, rest, *first, last)
+        }
+    }
+}
+
+/// Whether the first two letters of two words are in each other's place, and the rest is the same.
+fn is_exchanged(one: u8, rest: &[u8], first: u8, last: &[u8]) -> bool {
+    match (rest, last) {
+        ([two, rest @ ..], [second, last @ ..]) => {
+            one == *second && *two == first && rest == last
+        }
+        _ => false,
+    }
+}
+
+/// With how many letters that are the same two words begin.
+fn common_front(word: &[u8], other: &[u8]) -> usize {
+    let mut count = 0;
+    for index in 0..word.len().min(other.len()) {
+        if word[index] != other[index] {
+            break;
+        }
+        count = index + 1;
+    }
+    count
+}
