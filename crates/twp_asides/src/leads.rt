@@ -3,6 +3,7 @@
 use crate::marks::is_known_at;
 use crate::notes::is_of_company_name;
 use crate::pieces::{Pieces, plus};
+use crate::plain::is_plain_at;
 use twp_grammar::Kind;
 use twp_words::{
     are_corners, is_acres, is_boundary, is_doubtful_title, is_feature, is_instrument, is_of_lead,
@@ -82,6 +83,35 @@ pub(crate) fn ends_record(pieces: &Pieces<'_>, index: usize) -> bool {
             || (is_place && (is_of_lead(word) || is_known_at(pieces, place)));
         if begins_lead(pieces, place) {
             return has_instrument;
+        }
+    }
+    false
+}
+
+/// Whether a section, a township, or an aliquot part is at an index that can be nothing else, after plain words alone, of
+/// which the last doesn't say where in the land something is, as in `SMITH JOHN SWSE SEC 9`.
+pub(crate) fn ends_plain_words(pieces: &Pieces<'_>, index: usize) -> bool {
+    let Some(last) = index.checked_sub(1) else {
+        return false;
+    };
+    let is_place = matches!(pieces.kind(index), Kind::Sec) || pieces.is_township_word(index);
+    if !(is_place || is_sure_part(pieces, index))
+        || points_into(pieces.lower(last))
+        || !matches!(pieces.kind(last), Kind::Other)
+        || pieces.is_joined(index)
+    {
+        return false;
+    }
+    for count in 1..LEAD_MOST {
+        let Some(place) = index.checked_sub(count) else {
+            return true;
+        };
+        let is_word = matches!(pieces.kind(place), Kind::Other | Kind::And | Kind::Comma | Kind::Stop);
+        if !is_word || points_to_place(pieces, place) || !is_plain_at(pieces, place) {
+            return false;
+        }
+        if begins_lead(pieces, place) {
+            return true;
         }
     }
     false

@@ -1,7 +1,7 @@
 //! Remarks beside land: a cell, a line, a sentence, or parentheses that name no land.
 ghost use Rattle.std.specs.Prelude.{◌<◌};
 
-use crate::leads::{ends_lead, ends_record};
+use crate::leads::{ends_lead, ends_plain_words, ends_record};
 use crate::limits::{is_beyond_remark, is_row_of_table, is_type_of_case, limits_land_at};
 use crate::marks::{
     begins_tract, is_homesite_of_acreage, is_initial, is_known_at, is_of_well, is_title_of_other,
@@ -280,6 +280,7 @@ fn ends_remark(pieces: &Pieces<'_>, index: usize, position: Position) -> bool {
                 || is_after_conveyance(pieces, index)
                 || ends_lead(pieces, index)
                 || ends_record(pieces, index)
+                || ends_plain_words(pieces, index)
                 || is_before_the_land(pieces, index)
                 || is_before_section_and_tier(pieces, index)
                 || pieces.is_for_before_land(index)

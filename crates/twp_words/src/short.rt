@@ -34,22 +34,37 @@ const LIMITS: [&str; 26] = [
 /// The fewest letters of a word that is compared with another for a slip.
 const SLIP_LEAST: usize = 5;
 
-/// Whether a word, in lowercase, may be short for one that limits land, or such a word with a slip: it has no vowel, or
-/// only letters of corners, or begins one, or differs from one in a letter.
+/// Whether a word, in lowercase, may be short for one that limits land, or such a word with a slip: it has only letters
+/// of corners, or begins one, or has only consonants of one, or differs from one in a letter.
 pub fn may_be_limit(word: &[u8]) -> bool {
     let [first @ b'a'..=b'z', _, ..] = word else {
         return false;
     };
-    if *first == b'x' || !has_vowel(word) || is_like_corners(word) {
+    if *first == b'x' || is_like_corners(word) {
         return true;
     }
+    let has_vowel = has_vowel(word);
     for limit in LIMITS[usize::from(*first - b'a')].split(' ') {
         let limit = limit.as_bytes();
-        if limit.starts_with(word) || is_slip_of(word, limit) {
+        if limit.starts_with(word)
+            || (!has_vowel && has_letters_of(limit, word))
+            || is_slip_of(word, limit)
+        {
             return true;
         }
     }
     false
+}
+
+/// Whether a word has the letters of another in their order, as `canal` has those of `cnl`.
+fn has_letters_of(word: &[u8], other: &[u8]) -> bool {
+    let mut count = 0;
+    for letter in word {
+        if other.get(count) == Some(letter) {
+            count = count.saturating_add(1);
+        }
+    }
+    count == other.len()
 }
 
 /// Whether a vowel is in a word: a `y` is one only between other letters, or in a short name, as in `Fry`.
