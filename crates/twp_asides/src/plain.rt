@@ -5,7 +5,7 @@ use crate::marks::is_known_at;
 use crate::notes::is_of_company_name;
 use crate::pieces::{Pieces, plus};
 use twp_grammar::Kind;
-use twp_words::{is_doubtful_title, is_feature, is_instrument, is_site, may_be_limit};
+use twp_words::{is_doubtful_title, is_feature, is_instrument, is_site, lies_in_land, may_be_limit};
 
 /// Whether plain words may be left out beside land: a word begins at the index, and the text has no lots that may be of a
 /// town, whose name it would be.
@@ -13,6 +13,29 @@ pub(crate) fn may_be_plain(pieces: &Pieces<'_>, index: usize) -> bool {
     matches!(pieces.kind(index), Kind::Other)
         && pieces.begins_with_letter(index)
         && !has_only_lots(pieces)
+}
+
+/// Whether a plain word of three letters or more is at an index, apart from the piece before it.
+pub(crate) fn begins_plain_words(pieces: &Pieces<'_>, index: usize) -> bool {
+    matches!(pieces.kind(index), Kind::Other)
+        && pieces.begins_with_letter(index)
+        && pieces.size(index) >= 3
+        && !pieces.is_joined(index)
+        && !is_after_joining_word(pieces, index)
+        && is_plain_at(pieces, index)
+}
+
+/// Whether a word that joins land to more of it, or to what it is in, is before an index.
+fn is_after_joining_word(pieces: &Pieces<'_>, index: usize) -> bool {
+    matches!(pieces.kind_before(index), Some(Kind::And | Kind::Of | Kind::The | Kind::All))
+        || pieces.follows(index, b"&")
+        || pieces.follows(index, b"+")
+        || pieces.follows(index, b"also")
+        || pieces.follows(index, b"in")
+        || pieces.follows(index, b"said")
+        || pieces.follows(index, b"plus")
+        || pieces.follows(index, b"with")
+        || pieces.follows(index, b"or")
 }
 
 /// Whether lots, and no aliquot part, are in a text: they may be those of a town.
@@ -37,5 +60,11 @@ pub(crate) fn is_plain_at(pieces: &Pieces<'_>, index: usize) -> bool {
         || !(is_feature(word)
             || is_site(word)
             || is_doubtful_title(word)
+            || is_of_place(word)
             || may_be_limit(word))
+}
+
+/// Whether a word is for what lies in land, or for some of it, also with an `s` at its end.
+fn is_of_place(word: &[u8]) -> bool {
+    lies_in_land(word) || matches!(word, [front @ .., b's'] if lies_in_land(front))
 }

@@ -13,7 +13,7 @@ use crate::notes::{
     is_of_company_name, is_of_long_figure, may_begin_note,
 };
 use crate::pieces::{Pieces, plus};
-use crate::plain::{is_plain_at, may_be_plain};
+use crate::plain::{begins_plain_words, is_plain_at, may_be_plain};
 use crate::remark_ends::{
     begins_named_value, begins_question, is_after_conveyance, is_after_record, is_end_of_question,
     is_end_of_sentence,
@@ -137,7 +137,7 @@ fn leaves_remark(pieces: &Pieces<'_>, index: usize, place: usize, position: Posi
     is_limit
         || (pieces.may_be_section(place)
             && !may_be_well(pieces, index, place, position)
-            && !(position == Position::BeforeLand && pieces.follows(place, b"#")))
+            && !pieces.follows(place, b"#"))
         || (is_beyond_remark(pieces, place) && !is_name_of_water(pieces, place, position))
 }
 
@@ -183,6 +183,7 @@ fn may_be_well(pieces: &Pieces<'_>, index: usize, place: usize, position: Positi
 /// a number that is that of no section.
 fn begins_remark(pieces: &Pieces<'_>, index: usize, position: Position) -> bool {
     let is_apart = pieces.begins_column(index)
+        || begins_plain_words(pieces, index)
         || is_name_of_value(pieces, index)
         || match position {
             Position::BeforeLand => is_after_mark_of_label(pieces, index),

@@ -23,7 +23,7 @@ mod terms;
 
 pub use changes::{
     alters_land, is_land_by_name, is_of_appurtenance, is_of_estate, is_of_survey, is_site,
-    limits_land,
+    lies_in_land, limits_land,
 };
 pub use directions::{is_step_word, is_worn_corner, is_worn_section, letters_of, tens_of};
 pub use figures::{

@@ -31,6 +31,9 @@ const LIMITS: [&str; 26] = [
     "zone",
 ];
 
+/// The fewest letters of a word with a vowel that may be short for another.
+const FRONT_LEAST: usize = 3;
+
 /// The fewest letters of a word that is compared with another for a slip.
 const SLIP_LEAST: usize = 5;
 
@@ -46,7 +49,7 @@ pub fn may_be_limit(word: &[u8]) -> bool {
     let has_vowel = has_vowel(word);
     for limit in LIMITS[usize::from(*first - b'a')].split(' ') {
         let limit = limit.as_bytes();
-        if limit.starts_with(word)
+        if (word.len() >= FRONT_LEAST && limit.starts_with(word))
             || (!has_vowel && has_letters_of(limit, word))
             || is_slip_of(word, limit)
         {
