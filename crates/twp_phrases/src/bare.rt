@@ -44,16 +44,22 @@ impl<'a> Finder<'a> {
 
     /// The index of the number after the letter for a section at an index, and after a period, as in
     /// `S. 15, T. 2 N.`, or a colon, as in `S:15`: no half has such a number.
-    fn digits_of_letter(&self, index: usize) -> usize {
+    pub(crate) fn digits_of_letter(&self, index: usize) -> usize {
         let pieces = &self.draft.pieces;
         let next = plus(index, 1);
         let digits = plus(next, 1);
         let is_stop = pieces.is(next, b".")
             && pieces.is_joined(next)
             && !pieces.is_joined(digits)
-            && pieces.has_digits(digits, 2);
-        let is_colon = pieces.is(next, b":") && pieces.is_joined(next) && pieces.is_joined(digits);
+            && (pieces.has_digits(digits, 2) || pieces.is(plus(digits, 1), b":"));
+        let is_colon = pieces.is(next, b":") && pieces.is_joined(next);
         if is_stop || is_colon { digits } else { next }
+    }
+
+    /// Whether a number of two digits is at an index that is no fraction without its slash.
+    fn is_number_of_no_half(&self, index: usize) -> bool {
+        let pieces = &self.draft.pieces;
+        pieces.has_digits(index, 2) && !(pieces.is(index, b"12") || pieces.is(index, b"14"))
     }
 
     /// The number of a section at an index after the letter for it.
@@ -62,7 +68,10 @@ impl<'a> Finder<'a> {
         let next = plus(digits, 1);
         let has_stop = digits > plus(index, 1);
         if !pieces.is(index, b"s")
-            || !(pieces.is_joined(digits) || has_stop || pieces.is_township_word(next))
+            || !(pieces.is_joined(digits)
+                || has_stop
+                || pieces.is_township_word(next)
+                || self.is_number_of_no_half(digits))
             || (pieces.is_joined(next) && !pieces.is_after_tag(next))
         {
             return None;
@@ -74,14 +83,14 @@ impl<'a> Finder<'a> {
     /// or a section before it that is written so, and a colon after it, or land.
     fn is_sure_letter(&self, index: usize) -> bool {
         let pieces = &self.draft.pieces;
-        let digits = plus(index, 1);
-        let is_before_colon = pieces.is(plus(index, 2), b":");
+        let digits = self.digits_of_letter(index);
+        let is_before_colon = pieces.is(plus(digits, 1), b":");
         let is_list = match self.draft.last_section {
             Some(section) => pieces.is(section.first, b"s"),
             None => false,
         };
         (self.draft.last_names() == Some(Names::Heading)
-            && (is_before_colon || pieces.is(digits, b":") || pieces.bytes(digits).len() >= 2))
+            && (is_before_colon || digits > plus(index, 1) || pieces.bytes(digits).len() >= 2))
             || (is_list && is_before_colon)
             || pieces.is_section_before_land(index)
             || self.is_section_after_land(index)
@@ -93,7 +102,7 @@ impl<'a> Finder<'a> {
     /// `SESW S31, L4 S31`: no half has such a number, with or without its slash.
     fn is_section_after_land(&self, index: usize) -> bool {
         let pieces = &self.draft.pieces;
-        let digits = plus(index, 1);
+        let digits = self.digits_of_letter(index);
         let end = plus(digits, 1);
         let is_after_land = match self.draft.phrases.last() {
             Some(placed) => {
@@ -108,8 +117,7 @@ impl<'a> Finder<'a> {
         let is_last = end >= pieces.len() || pieces.is(end, b",") || pieces.is(end, b";");
         is_after_land
             && is_last
-            && pieces.has_digits(digits, 2)
-            && !(pieces.is(digits, b"12") || pieces.is(digits, b"14"))
+            && self.is_number_of_no_half(digits)
     }
 
     /// Whether the letter and the number at an index, before a township that ends at another, may be a half of a
@@ -237,7 +245,8 @@ impl<'a> Finder<'a> {
         }
         self.is_before_end_or_and(next)
             || self.end_of_heading(next).is_some()
-            || (self.draft.pieces.follows(index, b"of") && self.is_before_dash_or_except(next))
+            || (self.draft.pieces.follows(index, b"of")
+                && (self.is_before_dash_or_except(next) || self.is_before_mark(next)))
     }
 
     /// Whether the number at an index is before a township, and no land before it, as in `GRAZING LAND 11 2N 3W`.
@@ -256,6 +265,21 @@ impl<'a> Finder<'a> {
     fn is_before_dash_or_except(&self, index: usize) -> bool {
         self.after_except(index).is_some()
             || (self.draft.pieces.is_dash(index) && !self.draft.pieces.is_joined(index))
+    }
+
+    /// Whether a mark that ends what is said of land is at an index, or another column begins there.
+    fn is_before_mark(&self, index: usize) -> bool {
+        let pieces = &self.draft.pieces;
+        let is_stop = pieces.is(index, b".")
+            && pieces.is_joined(index)
+            && !pieces.is_joined(plus(index, 1));
+        is_stop
+            || pieces.is(index, b"(")
+            || pieces.is(index, b"[")
+            || pieces.is(index, b"?")
+            || pieces.is(index, b"+")
+            || pieces.is(index, b"plus")
+            || pieces.begins_column(index)
     }
 
     /// Whether the piece at an index begins a row.
@@ -364,6 +388,16 @@ impl<'a> Finder<'a> {
         {
             // Alone on its line, it may be that of a page.
             return Some(next < pieces.len() && !pieces.has_before(next, b'\n'));
+        }
+        let is_after_acreage = self.draft.last_names() == Some(Names::Nothing(LeftOut::Acreage));
+        if is_after_acreage
+            && self.names_land
+            && !pieces.is_joined(index)
+            && !pieces.is_joined(next)
+            && !is_after_comma
+            && pieces.begins_tier(next)
+        {
+            return Some(true);
         }
         if self.draft.last_names() != Some(Names::Part)
             || pieces.is_joined(index)

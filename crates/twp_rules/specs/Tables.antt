@@ -249,7 +249,7 @@ more_little_words = all_left_out (words (codes "public domain federal land lands
 
 abbrev pub joining_words : List Entry
 joining_words =
-    all_left_out (words (codes "also together with not exception inclusive incl both numbered no."))
+    all_left_out (words (codes "also together with not exception inclusive incl both numbered no. plus"))
     ++ pairs (codes "everything=all" ∷ [])
 
 -- ZEROS: before the other digits of a number

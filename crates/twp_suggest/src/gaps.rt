@@ -242,7 +242,11 @@ impl<'p, 'a> ChangeWriter<'p, 'a> {
     pub(crate) fn leads_on(&self, index: usize) -> bool {
         let pieces = &self.plan.draft.pieces;
         match pieces.kind(index) {
-            Kind::Other => pieces.is(index, b"also") || pieces.is(index, b"together"),
+            Kind::Other => {
+                pieces.is(index, b"also")
+                    || pieces.is(index, b"plus")
+                    || pieces.is(index, b"together")
+            }
             Kind::BadByte => pieces.is(index, b"+") || pieces.is(index, b"/"),
             _ => false,
         }

@@ -1,6 +1,7 @@
 //! Land before its sections, as in `NE of Sec. 14`.
 
 use crate::arranged::plan::Plan;
+use twp_asides::plus;
 use twp_draft::{Form, IndexRange, Names, Phrase, Placed, Role};
 use twp_grammar::Kind;
 
@@ -261,9 +262,11 @@ impl<'a> Plan<'a> {
         found.lands = found.lands.saturating_add(1);
     }
 
-    /// Whether a section has no word for it.
+    /// Whether a section has no word for it, and no township after it.
     fn is_bare_number(&self, section: Phrase) -> bool {
-        matches!(self.draft.pieces.kind(section.first), Kind::Number(_))
+        let pieces = &self.draft.pieces;
+        let next = plus(section.end, usize::from(pieces.is_dash(section.end)));
+        matches!(pieces.kind(section.first), Kind::Number(_)) && !pieces.begins_tier(next)
     }
 
     /// Whether a phrase names the section that was named before, and no other.

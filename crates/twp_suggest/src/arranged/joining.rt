@@ -171,6 +171,7 @@ impl<'a> Plan<'a> {
             let is_and = matches!(pieces.kind(index), Kind::And)
                 || pieces.is(index, b"&")
                 || pieces.is(index, b"also")
+                || pieces.is(index, b"plus")
                 || pieces.is(index, b"together");
             if index >= next && is_and {
                 return true;
