@@ -6,7 +6,7 @@ use crate::pieces::{Pieces, plus};
 use crate::plain::is_plain_at;
 use twp_grammar::Kind;
 use twp_words::{
-    are_corners, is_acres, is_boundary, is_doubtful_title, is_feature, is_instrument, is_of_lead,
+    are_corners, is_acres, is_boundary, is_doubtful_title, is_feature, is_instrument, is_of_label, is_of_lead, is_of_tract,
     is_same, is_site, limits_land, names_parcel, points_into,
 };
 
@@ -96,7 +96,7 @@ pub(crate) fn ends_plain_words(pieces: &Pieces<'_>, index: usize) -> bool {
     };
     let is_place = matches!(pieces.kind(index), Kind::Sec) || pieces.is_township_word(index);
     if !(is_place || is_sure_part(pieces, index))
-        || points_into(pieces.lower(last))
+        || (points_into(pieces.lower(last)) && !is_same(pieces.lower(last), b"on"))
         || !matches!(pieces.kind(last), Kind::Other)
         || pieces.is_joined(index)
     {
@@ -106,8 +106,11 @@ pub(crate) fn ends_plain_words(pieces: &Pieces<'_>, index: usize) -> bool {
         let Some(place) = index.checked_sub(count) else {
             return true;
         };
-        let is_word = matches!(pieces.kind(place), Kind::Other | Kind::And | Kind::Comma | Kind::Stop);
-        if !is_word || points_to_place(pieces, place) || !is_plain_at(pieces, place) {
+        let is_word = matches!(
+            pieces.kind(place),
+            Kind::Other | Kind::And | Kind::Comma | Kind::Stop
+        );
+        if !(is_word || is_number_of_label(pieces, place)) || points_to_place(pieces, place) || !is_plain_at(pieces, place) {
             return false;
         }
         if begins_lead(pieces, place) {
@@ -115,6 +118,15 @@ pub(crate) fn ends_plain_words(pieces: &Pieces<'_>, index: usize) -> bool {
         }
     }
     false
+}
+
+/// Whether the number of a label is at an index, as in `Tract 4 Hansen lease`.
+fn is_number_of_label(pieces: &Pieces<'_>, index: usize) -> bool {
+    let is_label = match pieces.lower_back(index, 1) {
+        Some(word) => is_of_label(word) || is_of_tract(word) || is_same(word, b"#"),
+        None => false,
+    };
+    is_label && pieces.number(index).is_some() && !pieces.is_joined(plus(index, 1))
 }
 
 /// Whether two corners or more, or a half or a quarter with its fraction, are at an index.

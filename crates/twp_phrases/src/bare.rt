@@ -5,6 +5,7 @@ use twp_asides::plus;
 use twp_draft::{Form, LeftOut, Names, WrittenNumber};
 use twp_grammar::Kind;
 use twp_rules::Rule;
+use twp_words::{is_acres, is_of_time, is_same};
 
 /// The most phrases among which the label of a tract is looked for.
 const PHRASES_MOST: usize = 8;
@@ -246,7 +247,7 @@ impl<'a> Finder<'a> {
         self.is_before_end_or_and(next)
             || self.end_of_heading(next).is_some()
             || (self.draft.pieces.follows(index, b"of")
-                && (self.is_before_dash_or_except(next) || self.is_before_mark(next)))
+                && (self.is_before_dash_or_except(next) || self.ends_number(next)))
     }
 
     /// Whether the number at an index is before a township, and no land before it, as in `GRAZING LAND 11 2N 3W`.
@@ -267,19 +268,22 @@ impl<'a> Finder<'a> {
             || (self.draft.pieces.is_dash(index) && !self.draft.pieces.is_joined(index))
     }
 
-    /// Whether a mark that ends what is said of land is at an index, or another column begins there.
-    fn is_before_mark(&self, index: usize) -> bool {
+    /// Whether the piece at an index makes nothing else of the number before it, after a part and `of`: it is no unit, and
+    /// isn't joined to it.
+    fn ends_number(&self, index: usize) -> bool {
         let pieces = &self.draft.pieces;
-        let is_stop = pieces.is(index, b".")
-            && pieces.is_joined(index)
-            && !pieces.is_joined(plus(index, 1));
-        is_stop
-            || pieces.is(index, b"(")
-            || pieces.is(index, b"[")
+        let is_mark = pieces.is(index, b",")
+            || pieces.is(index, b";")
             || pieces.is(index, b"?")
-            || pieces.is(index, b"+")
-            || pieces.is(index, b"plus")
-            || pieces.begins_column(index)
+            || pieces.is(index, b"!")
+            || pieces.is(index, b")")
+            || (pieces.is(index, b".") && !pieces.is_joined(plus(index, 1)));
+        let is_count = match pieces.kind(index) {
+            Kind::Lot | Kind::Of | Kind::Number(_) | Kind::BadNumber | Kind::All => true,
+            Kind::Other => is_unit(pieces.lower(index)),
+            _ => false,
+        };
+        is_mark || !(is_count || pieces.is_joined(index))
     }
 
     /// Whether the piece at an index begins a row.
@@ -434,4 +438,28 @@ impl<'a> Finder<'a> {
             || pieces.is(index, b"and")
             || pieces.is(index, b"&")
     }
+}
+
+/// Whether a word is for what a number before it counts, and no land.
+fn is_unit(word: &[u8]) -> bool {
+    is_acres(word)
+        || is_of_time(word)
+        || is_same(word, b"mile")
+        || is_same(word, b"miles")
+        || is_same(word, b"feet")
+        || is_same(word, b"foot")
+        || is_same(word, b"ft")
+        || is_same(word, b"rod")
+        || is_same(word, b"rods")
+        || is_same(word, b"chain")
+        || is_same(word, b"chains")
+        || is_same(word, b"percent")
+        || is_same(word, b"tracts")
+        || is_same(word, b"parcels")
+        || is_same(word, b"parts")
+        || is_same(word, b"shares")
+        || is_same(word, b"equal")
+        || is_same(word, b"quarters")
+        || is_same(word, b"halves")
+        || is_same(word, b"forties")
 }
