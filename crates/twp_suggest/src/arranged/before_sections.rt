@@ -53,6 +53,18 @@ impl LandSoFar {
         }
     }
 
+    /// Whether neither land nor a section was found.
+    fn is_first(&self) -> bool {
+        self.first.is_none() && self.section.is_none()
+    }
+
+    /// Takes sections that are whole, before any land.
+    fn take_whole(&mut self, phrase: Phrase) {
+        self.section = Some(phrase);
+        self.last = phrase.first;
+        self.group = self.group.saturating_add(1);
+    }
+
     /// Whether what was found isn't sure when nothing follows.
     fn is_unsure_at_end(&self) -> bool {
         let is_unsure_list = self.has_comma && self.group > 2 && !self.are_apart && !self.is_one;
@@ -113,6 +125,10 @@ impl<'a> Plan<'a> {
         let phrase = placed.phrase;
         match phrase.names {
             Names::Nothing(_) | Names::Heading => {}
+            Names::Sections if found.is_first() => {
+                placed.role = Role::Kept(found.group);
+                found.take_whole(phrase);
+            }
             Names::Sections => {
                 placed.role = Role::LeftOut;
                 self.take_section_after_land(list, phrase, found);

@@ -72,7 +72,9 @@ impl<'a> Plan<'a> {
         if before.names == Names::Sections {
             // All of the section, and land of another, may be meant.
             let is_land = matches!(after.names, Names::Part | Names::Lots | Names::All);
-            return is_land && self.has_and(before.end, after.first, left_out);
+            return is_land
+                && one.role == other.role
+                && self.has_and(before.end, after.first, left_out);
         }
         if one.role != other.role {
             return false;
