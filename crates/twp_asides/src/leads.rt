@@ -6,8 +6,8 @@ use crate::pieces::{Pieces, plus};
 use crate::plain::is_plain_at;
 use twp_grammar::Kind;
 use twp_words::{
-    are_corners, is_acres, is_boundary, is_doubtful_title, is_feature, is_instrument, is_of_label, is_of_lead, is_of_tract,
-    is_same, is_site, limits_land, names_parcel, points_into,
+    are_corners, is_acres, is_boundary, is_doubtful_title, is_feature, is_instrument, is_of_label,
+    is_of_lead, is_of_tract, is_same, is_site, limits_land, names_parcel, points_into,
 };
 
 /// The most pieces of what is said before land without a mark at its end.
@@ -110,7 +110,10 @@ pub(crate) fn ends_plain_words(pieces: &Pieces<'_>, index: usize) -> bool {
             pieces.kind(place),
             Kind::Other | Kind::And | Kind::Comma | Kind::Stop
         );
-        if !(is_word || is_number_of_label(pieces, place)) || points_to_place(pieces, place) || !is_plain_at(pieces, place) {
+        if !(is_word || is_number_of_label(pieces, place))
+            || points_to_place(pieces, place)
+            || !is_plain_at(pieces, place)
+        {
             return false;
         }
         if begins_lead(pieces, place) {

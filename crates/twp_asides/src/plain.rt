@@ -5,7 +5,9 @@ use crate::marks::is_known_at;
 use crate::notes::is_of_company_name;
 use crate::pieces::{Pieces, plus};
 use twp_grammar::Kind;
-use twp_words::{is_doubtful_title, is_feature, is_instrument, is_site, lies_in_land, may_be_limit};
+use twp_words::{
+    is_doubtful_title, is_feature, is_instrument, is_site, lies_in_land, may_be_limit,
+};
 
 /// Whether plain words may be left out beside land: a word begins at the index, and the text has no lots that may be of a
 /// town, whose name it would be.
@@ -27,8 +29,10 @@ pub(crate) fn begins_plain_words(pieces: &Pieces<'_>, index: usize) -> bool {
 
 /// Whether a word that joins land to more of it, or to what it is in, is before an index.
 fn is_after_joining_word(pieces: &Pieces<'_>, index: usize) -> bool {
-    matches!(pieces.kind_before(index), Some(Kind::And | Kind::Of | Kind::The | Kind::All))
-        || pieces.follows(index, b"&")
+    matches!(
+        pieces.kind_before(index),
+        Some(Kind::And | Kind::Of | Kind::The | Kind::All)
+    ) || pieces.follows(index, b"&")
         || pieces.follows(index, b"+")
         || pieces.follows(index, b"also")
         || pieces.follows(index, b"in")

@@ -70,10 +70,15 @@ pub fn end_of_remark(pieces: &Pieces<'_>, index: usize, position: Position) -> O
     let mut is_plain = may_be_plain(pieces, index);
     let mut next = index;
     for place in index..plus(index, PIECES_MOST) {
-        let ends_note = (is_sure || is_plain) && has_word && is_dash_after_note(pieces, place, position);
+        let ends_note = (is_sure || is_plain)
+            && has_word
+            && is_dash_after_note(pieces, place, position);
         let is_end = place >= pieces.len() || ends_note || ends_remark(pieces, place, position);
         if place > index && is_end {
-            if !has_word || !(is_sure || is_plain) || !may_end_remark(pieces, index, place, position) {
+            if !has_word
+                || !(is_sure || is_plain)
+                || !may_end_remark(pieces, index, place, position)
+            {
                 return None;
             }
             return Some(plus(place, usize::from(is_colon_of_remark(pieces, place))));
@@ -355,7 +360,11 @@ fn end_of_parentheses(pieces: &Pieces<'_>, index: usize) -> Option<usize> {
     let mut is_plain = may_be_plain(pieces, next);
     for place in after_acreage..plus(after_acreage, PARENTHESES_MOST) {
         if pieces.is(place, mark) {
-            return if is_sure || is_plain { Some(plus(place, 1)) } else { None };
+            return if is_sure || is_plain {
+                Some(plus(place, 1))
+            } else {
+                None
+            };
         }
         is_plain = is_plain && is_plain_at(pieces, place);
         is_sure = is_sure

@@ -116,9 +116,7 @@ impl<'a> Finder<'a> {
             None => false,
         };
         let is_last = end >= pieces.len() || pieces.is(end, b",") || pieces.is(end, b";");
-        is_after_land
-            && is_last
-            && self.is_number_of_no_half(digits)
+        is_after_land && is_last && self.is_number_of_no_half(digits)
     }
 
     /// Whether the letter and the number at an index, before a township that ends at another, may be a half of a

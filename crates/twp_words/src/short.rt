@@ -1,36 +1,6 @@
 //! Words that nothing is known of, but that may be short for a word that bounds, excepts, divides, or limits land, or
 //! such a word with a slip.
 
-/// Words that bound, except, divide, or limit land, or are for what lies in it, by their first letter, from `a` on.
-const LIMITS: [&str; 26] = [
-    "above abutting access across adjacent adjoining along alongside approximately around",
-    "balance beach before beginning behind below beneath beside between beyond bisected block bordering boundary bounded bridge",
-    "canal centerline central commencing corner corrected creek crossing",
-    "deducting deleted described ditch divided downstream drain drive",
-    "easement easterly eastern elevation enclosed except excluding excess exempt",
-    "facing feet fenced former fraction fractional frontage",
-    "garden government ground",
-    "half highway homesite",
-    "improvements inside intersecting irrigated island",
-    "junction",
-    "keep",
-    "lakeshore lane lateral lesser less limited lower",
-    "marsh meander middle minus",
-    "nearest neighboring northerly northern northeast northwest",
-    "omitted opposite orchard other outside outlot over",
-    "parcel park partial parts perimeter pivot pond portion previously prior",
-    "quarry quarter",
-    "railroad railway remainder remaining reserved reservoir residue right river road roadway rods",
-    "said same save section separate shoreline slough southerly southern southeast southwest spring square strip subdivision surface surveyed",
-    "through thereof timber toward tract triangle triangular",
-    "undivided under unless unsurveyed upper",
-    "vacant vacated village",
-    "water well westerly western wetland within without",
-    "",
-    "yards",
-    "zone",
-];
-
 /// The fewest letters of a word with a vowel that may be short for another.
 const FRONT_LEAST: usize = 3;
 
@@ -47,7 +17,7 @@ pub fn may_be_limit(word: &[u8]) -> bool {
         return true;
     }
     let has_vowel = has_vowel(word);
-    for limit in LIMITS[usize::from(*first - b'a')].split(' ') {
+    for limit in limits_of(*first).split(' ') {
         let limit = limit.as_bytes();
         if (word.len() >= FRONT_LEAST && limit.starts_with(word))
             || (!has_vowel && has_letters_of(limit, word))
@@ -74,15 +44,18 @@ fn has_letters_of(word: &[u8], other: &[u8]) -> bool {
 fn has_vowel(word: &[u8]) -> bool {
     let is_vowel = |letter: &u8| matches!(*letter, b'a' | b'e' | b'i' | b'o' | b'u');
     match word {
-        [front @ .., b'y'] if front.len() > 2 => front.iter().any(|letter| is_vowel(letter) || *letter == b'y'),
-        _ => word.iter().any(|letter| is_vowel(letter) || *letter == b'y'),
+        [front @ .., b'y'] if front.len() > 2 => front
+            .iter()
+            .any(|letter| is_vowel(letter) || *letter == b'y'),
+        _ => word
+            .iter()
+            .any(|letter| is_vowel(letter) || *letter == b'y'),
     }
 }
 
 /// Whether a word has only letters of corners, as scanning leaves them, as in `NVVNE`.
 fn is_like_corners(word: &[u8]) -> bool {
-    word.iter()
-        .all(|letter| matches!(*letter, b'n' | b's' | b'e' | b'w' | b'v'))
+    word.iter().all(|letter| matches!(*letter, b'n' | b's' | b'e' | b'w' | b'v'))
 }
 
 /// Whether a word is another with one letter missing, too many, or wrong, or with two letters in each other's place.
@@ -96,10 +69,7 @@ fn is_slip_of(word: &[u8], other: &[u8]) -> bool {
         ([], _) => theirs.len() <= 1,
         (_, []) => mine.len() <= 1,
         ([one, rest @ ..], [first, last @ ..]) => {
-            rest == theirs
-                || mine == last
-                || rest == last
-                || is_exchanged(*one, rest, *first, last)
+            rest == theirs || mine == last || rest == last || is_exchanged(*one, rest, *first, last)
         }
     }
 }
@@ -124,4 +94,48 @@ fn common_front(word: &[u8], other: &[u8]) -> usize {
         count = index + 1;
     }
     count
+}
+
+/// Words with a letter at their beginning that bound, except, divide, or limit land, or are for what lies in it.
+fn limits_of(first: u8) -> &'static str {
+    match first {
+        b'a' => {
+            "above abutting access across adjacent adjoining along alongside \
+             approximately around"
+        }
+        b'b' => {
+            "balance beach before beginning behind below beneath beside between beyond \
+             bisected block bordering boundary bounded bridge"
+        }
+        b'c' => "canal centerline central commencing corner corrected creek crossing",
+        b'd' => "deducting deleted described ditch divided downstream drain drive",
+        b'e' => "easement easterly eastern elevation enclosed except excluding excess exempt",
+        b'f' => "facing feet fenced former fraction fractional frontage",
+        b'g' => "garden government ground",
+        b'h' => "half highway homesite",
+        b'i' => "improvements inside intersecting irrigated island",
+        b'j' => "junction",
+        b'k' => "keep",
+        b'l' => "lakeshore lane lateral lesser less limited lower",
+        b'm' => "marsh meander middle minus",
+        b'n' => "nearest neighboring northerly northern northeast northwest",
+        b'o' => "omitted opposite orchard other outside outlot over",
+        b'p' => "parcel park partial parts perimeter pivot pond portion previously prior",
+        b'q' => "quarry quarter",
+        b'r' => {
+            "railroad railway remainder remaining reserved reservoir residue right river \
+             road roadway rods"
+        }
+        b's' => {
+            "said same save section separate shoreline slough southerly southern \
+             southeast southwest spring square strip subdivision surface surveyed"
+        }
+        b't' => "through thereof timber toward tract triangle triangular",
+        b'u' => "undivided under unless unsurveyed upper",
+        b'v' => "vacant vacated village",
+        b'w' => "water well westerly western wetland within without",
+        b'y' => "yards",
+        b'z' => "zone",
+        _ => "",
+    }
 }

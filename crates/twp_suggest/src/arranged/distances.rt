@@ -321,8 +321,7 @@ impl<'a> Plan<'a> {
             Kind::Other
                 if pieces.is(index, b"also")
                     || pieces.is(index, b"plus")
-                    || pieces.is(index, b"together") =>
-                Distance::Comma,
+                    || pieces.is(index, b"together") => Distance::Comma,
             _ => Distance::Space,
         }
     }

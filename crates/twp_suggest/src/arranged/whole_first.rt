@@ -50,7 +50,9 @@ impl<'a> Plan<'a> {
                 (Names::Nothing(_) | Names::Heading, _) => {}
                 (Names::Sections, None) => end = Some(phrase.end),
                 (Names::Part | Names::Lots, Some(end)) if !has_land => {
-                    if !self.has_kind(end, phrase.first, Kind::And) && !self.draft.pieces.is(end, b"&") {
+                    if !self.has_kind(end, phrase.first, Kind::And)
+                        && !self.draft.pieces.is(end, b"&")
+                    {
                         return false;
                     }
                     has_land = true;
