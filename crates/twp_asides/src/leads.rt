@@ -94,7 +94,7 @@ pub(crate) fn ends_plain_words(pieces: &Pieces<'_>, index: usize) -> bool {
     let Some(last) = index.checked_sub(1) else {
         return false;
     };
-    let is_place = matches!(pieces.kind(index), Kind::Sec) || pieces.is_township_word(index);
+    let is_place = matches!(pieces.kind(index), Kind::Sec) || pieces.begins_tier(index);
     if !(is_place || is_sure_part(pieces, index))
         || (points_into(pieces.lower(last)) && !is_same(pieces.lower(last), b"on"))
         || !matches!(pieces.kind(last), Kind::Other)
@@ -106,11 +106,7 @@ pub(crate) fn ends_plain_words(pieces: &Pieces<'_>, index: usize) -> bool {
         let Some(place) = index.checked_sub(count) else {
             return true;
         };
-        let is_word = matches!(
-            pieces.kind(place),
-            Kind::Other | Kind::And | Kind::Comma | Kind::Stop
-        );
-        if !(is_word || is_number_of_label(pieces, place))
+        if !may_be_of_lead(pieces, place)
             || points_to_place(pieces, place)
             || !is_plain_at(pieces, place)
         {
@@ -121,6 +117,31 @@ pub(crate) fn ends_plain_words(pieces: &Pieces<'_>, index: usize) -> bool {
         }
     }
     false
+}
+
+/// Whether the piece at an index may be of plain words before land: a word, a comma, a period, or a number that is that of
+/// no section.
+fn may_be_of_lead(pieces: &Pieces<'_>, index: usize) -> bool {
+    match pieces.kind(index) {
+        Kind::Other | Kind::And | Kind::Comma | Kind::Stop | Kind::BadNumber => true,
+        Kind::Number(_) => {
+            is_number_of_label(pieces, index) || !pieces.may_be_section(index)
+        }
+        Kind::BadByte => {
+            pieces.is(index, b"&")
+                || pieces.is(index, b"#")
+                || pieces.is(index, b"$")
+                || pieces.is(index, b"'")
+                || (pieces.is(index, b"/") && is_in_date(pieces, index))
+        }
+        _ => false,
+    }
+}
+
+/// Whether a slash at an index is the first or the second one of a date.
+fn is_in_date(pieces: &Pieces<'_>, index: usize) -> bool {
+    matches!(index.checked_sub(1), Some(first) if pieces.is_date(first))
+        || matches!(index.checked_sub(3), Some(first) if pieces.is_date(first))
 }
 
 /// Whether the number of a label is at an index, as in `Tract 4 Hansen lease`.

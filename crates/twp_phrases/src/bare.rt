@@ -57,10 +57,13 @@ impl<'a> Finder<'a> {
         if is_stop || is_colon { digits } else { next }
     }
 
-    /// Whether a number of two digits is at an index that is no fraction without its slash.
+    /// Whether a number is at an index that is no fraction without its slash, nor a digit of one.
     fn is_number_of_no_half(&self, index: usize) -> bool {
         let pieces = &self.draft.pieces;
-        pieces.has_digits(index, 2) && !(pieces.is(index, b"12") || pieces.is(index, b"14"))
+        match pieces.number(index) {
+            Some(number) => !matches!(number, 0 | 1 | 2 | 4 | 12 | 14),
+            None => false,
+        }
     }
 
     /// The number of a section at an index after the letter for it.
@@ -115,7 +118,10 @@ impl<'a> Finder<'a> {
             }
             None => false,
         };
-        let is_last = end >= pieces.len() || pieces.is(end, b",") || pieces.is(end, b";");
+        let is_last = end >= pieces.len()
+            || pieces.is(end, b",")
+            || pieces.is(end, b";")
+            || pieces.begins_column(end);
         is_after_land && is_last && self.is_number_of_no_half(digits)
     }
 
