@@ -272,8 +272,8 @@ impl<'a> Finder<'a> {
             || (self.draft.pieces.is_dash(index) && !self.draft.pieces.is_joined(index))
     }
 
-    /// Whether the piece at an index makes nothing else of the number before it, after a part and `of`: it is no unit, and
-    /// isn't joined to it.
+    /// Whether the piece at an index makes nothing else of the number before it, after a part and `of`: it is no unit, no
+    /// name, and isn't joined to it.
     fn ends_number(&self, index: usize) -> bool {
         let pieces = &self.draft.pieces;
         let is_mark = pieces.is(index, b",")
@@ -284,7 +284,9 @@ impl<'a> Finder<'a> {
             || (pieces.is(index, b".") && !pieces.is_joined(plus(index, 1)));
         let is_count = match pieces.kind(index) {
             Kind::Lot | Kind::Of | Kind::Number(_) | Kind::BadNumber | Kind::All => true,
-            Kind::Other => is_unit(pieces.lower(index)),
+            Kind::Other => {
+                is_unit(pieces.lower(index)) || matches!(pieces.bytes(index), [b'A'..=b'Z', ..])
+            }
             _ => false,
         };
         is_mark || !(is_count || pieces.is_joined(index))

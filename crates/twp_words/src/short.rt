@@ -8,7 +8,7 @@ const FRONT_LEAST: usize = 3;
 const SLIP_LEAST: usize = 5;
 
 /// Whether a word, in lowercase, may be short for one that limits land, or such a word with a slip: it has only letters
-/// of corners, or begins one, or has only consonants of one, or differs from one in a letter.
+/// of corners, or begins one, or has some of its letters in their order, or differs from one in a letter.
 pub fn may_be_limit(word: &[u8]) -> bool {
     let [first @ b'a'..=b'z', _, ..] = word else {
         return false;
@@ -20,13 +20,18 @@ pub fn may_be_limit(word: &[u8]) -> bool {
     for limit in limits_of(*first).split(' ') {
         let limit = limit.as_bytes();
         if (word.len() >= FRONT_LEAST && limit.starts_with(word))
-            || (!has_vowel && has_letters_of(limit, word))
+            || is_short_for(word, limit, has_vowel)
             || is_slip_of(word, limit)
         {
             return true;
         }
     }
     false
+}
+
+/// Whether a word has letters of another in their order: only consonants, or half of its letters.
+fn is_short_for(word: &[u8], limit: &[u8], has_vowel: bool) -> bool {
+    (!has_vowel || word.len().saturating_mul(2) >= limit.len()) && has_letters_of(limit, word)
 }
 
 /// Whether a word has the letters of another in their order, as `canal` has those of `cnl`.
@@ -64,7 +69,8 @@ fn is_slip_of(word: &[u8], other: &[u8]) -> bool {
         return false;
     }
     let front = common_front(word, other);
-    let (mine, theirs) = (&word[front..], &other[front..]);
+    let mine = word.get(front..).unwrap_or(b"");
+    let theirs = other.get(front..).unwrap_or(b"");
     match (mine, theirs) {
         ([], _) => theirs.len() <= 1,
         (_, []) => mine.len() <= 1,
