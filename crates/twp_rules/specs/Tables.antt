@@ -221,7 +221,7 @@ ampersands = pairs (texts (codes "&= and |&=and"))
 -- COMMA: between the parts of a section, before them, and after a heading
 abbrev pub commas : List Entry
 commas = pairs (codes "=, " ∷ [])
-    ++ all_as (texts (codes "|;|:|.|&|-") ++ en_dash ∷ em_dash ∷ words (codes "| +")) (codes ",")
+    ++ all_as (texts (codes "|;|:|.|&|-") ++ en_dash ∷ em_dash ∷ words (codes "| + plus")) (codes ",")
 
 -- SEMICOLON: between one section, with its parts, and another
 abbrev pub semicolons : List Entry
@@ -249,7 +249,7 @@ more_little_words = all_left_out (words (codes "public domain federal land lands
 
 abbrev pub joining_words : List Entry
 joining_words =
-    all_left_out (words (codes "also together with not exception inclusive incl both numbered no. plus"))
+    all_left_out (words (codes "also together with not exception inclusive incl both numbered no."))
     ++ pairs (codes "everything=all" ∷ [])
 
 -- ZEROS: before the other digits of a number

@@ -222,6 +222,7 @@ impl<'p, 'a> ChangeWriter<'p, 'a> {
         match self.plan.draft.pieces.lower(index) {
             b"," | b";" | b":" | b"." | b"&" | b"-" | b"|" | b"+" => true,
             b"/" => !is_comma,
+            b"plus" => is_comma,
             b"\xE2\x80\x93" | b"\xE2\x80\x94" => is_comma,
             _ => false,
         }

@@ -110,7 +110,7 @@ pub(crate) fn is_in_more_little_words(seen: &[u8], written: &[u8]) -> bool
 }
 
 /// The table `joining_words` of the specification.
-static JOINING_WORDS: [[u8; 14]; 12] = [
+static JOINING_WORDS: [[u8; 14]; 11] = [
     *b"also=_________",
     *b"together=_____",
     *b"with=_________",
@@ -121,7 +121,6 @@ static JOINING_WORDS: [[u8; 14]; 12] = [
     *b"both=_________",
     *b"numbered=_____",
     *b"no.=__________",
-    *b"plus=_________",
     *b"everything=all",
 ];
 
@@ -132,9 +131,9 @@ pub(crate) fn is_in_joining_words(seen: &[u8], written: &[u8]) -> bool
     is_among(
         seen,
         written,
-        0x0091_4226,
+        0x0090_4226,
         0x0160_d200,
-        0x0038_60a8,
+        0x0018_60a8,
         &JOINING_WORDS,
     )
 }

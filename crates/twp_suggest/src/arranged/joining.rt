@@ -227,6 +227,7 @@ impl<'a> Plan<'a> {
             if !(is_stop
                 || pieces.is(index, b"&")
                 || pieces.is(index, b"+")
+                || pieces.is(index, b"plus")
                 || pieces.is(index, b",")
                 || pieces.is(index, b";"))
             {
