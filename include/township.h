@@ -332,17 +332,17 @@ typedef struct township_land {
 
 /*
  * A lot table: the lots of a township's approved plat, and the acreage that it returns for each. You may copy it, store
- * it, compare it byte by byte, or fill it in by hand: any values are a lot table if its township is valid.
+ * it, compare it byte by byte, or fill it in by hand: any values form a lot table if its township is valid.
  *
- * `figures` are in hundredths of an acre: 1 to 99,999, or any other value if the table lacks the lot. The figures of
- * a section are those from `first[section - 1]` to before `first[section]`, and `numbers` has the number of the lot
- * that each is for.
+ * `figures` are in hundredths of an acre: 1 to 99,999, or any other value if the table lacks the lot. The figures of a
+ * section are those from `first[section - 1]` up to `first[section]` (exclusive), and `numbers` contains the number of
+ * the lot that each is for.
  *
- * If `mapped` is 0, the lots are those of a regular township, at their places. If it is not, `positions` has 16 bytes
- * for each section, by number: one for each quarter-quarter section, by row from the south, and in a row from the
+ * If `mapped` is 0, the lots are those of a regular township, at their places. Otherwise, `positions` contains 16 bytes
+ * for each section, by number: one for each quarter-quarter section, by row from the south, and within a row from the
  * east. A byte is the number of the lot that the quarter-quarter is in, 0 if it is land in no lot, or 100 if the plat
  * has no land there. A larger byte is for a quarter-quarter that is divided: 101 for the first one of `divided`, which
- * has such a byte for each of its 64 places, by row from the south, and in a row from the east.
+ * contains such a byte for each of its 64 places, in the same order.
  */
 typedef struct township_lots {
     uint32_t figures[TOWNSHIP_RETURNED_MOST];
@@ -576,7 +576,7 @@ township_answer township_answer_many(const township_plat *plat, const uint8_t *d
  * Writes to `township` the township that a text names: `T. 2 N., R. 3 W.` as in the heading of a description,
  * `T2N R3W`, `T-2-N, R-3-W`, `Township 2 North, Range 3 West`, `2N-3W`, or `0020N 0030W` as in a register;
  * docs/TOWNSHIPS.md lists all spellings. Any other text is refused, including one that also names land. The place of
- * the refusal is the first byte of the first word, number, or mark that no spelling has in its position, or the length
+ * the refusal is the first byte of the first word, number, or mark that fits no spelling in its position, or the length
  * of the text. On any verdict other than TOWNSHIP_ACCEPTED, `township` is unchanged.
  */
 township_answer township_designation_read(const uint8_t *text, size_t text_length, township_designation *township);
@@ -585,7 +585,7 @@ township_answer township_designation_read(const uint8_t *text, size_t text_lengt
 township_answer township_designation_text(const township_designation *township, uint8_t *text, size_t room);
 
 /* Writes to `land` the land that a description names in a township with the standard lots. The description is refused
-   exactly if it is refused on the plats of that township that field notes make. On any verdict other than
+   exactly if it is refused on a plat of that township made from field notes. On any verdict other than
    TOWNSHIP_ACCEPTED, `land` is unchanged. */
 township_answer township_land_read(const township_designation *township, const uint8_t *description,
                                    size_t description_length, township_land *land);
@@ -615,8 +615,8 @@ township_answer township_land_parts(const township_land *land, township_part *pa
 #define TOWNSHIP_INTERSECTION 1u
 #define TOWNSHIP_DIFFERENCE 2u
 
-/* Writes to `land` the union, the intersection, or the difference of `first` and `second`, which are on one plat. On
-   any verdict other than TOWNSHIP_ACCEPTED, `land` is unchanged. */
+/* Writes to `land` the union, the intersection, or the difference of `first` and `second`, which must be on one plat.
+   On any verdict other than TOWNSHIP_ACCEPTED, `land` is unchanged. */
 township_answer township_land_combine(const township_land *first, const township_land *second,
                                       uint32_t operation, township_land *land);
 
@@ -627,7 +627,7 @@ township_answer township_land_combine(const township_land *first, const township
 #define TOWNSHIP_OVERLAPS 3u     /* they share land, and each contains land that the other does not */
 #define TOWNSHIP_DISJOINT 4u     /* they share no land, and neither is empty */
 
-/* Writes to `comparison` how `first` compares to `second`, which are on one plat. On any verdict other than
+/* Writes to `comparison` how `first` compares to `second`, which must be on one plat. On any verdict other than
    TOWNSHIP_ACCEPTED, `comparison` is unchanged. */
 township_answer township_land_compare(const township_land *first, const township_land *second,
                                       uint32_t *comparison);
@@ -637,28 +637,28 @@ township_answer township_land_compare(const township_land *first, const township
 township_answer township_lots_read(const uint8_t *table, size_t table_length, township_lots *lots);
 
 /*
- * Writes the plain table of a lot table as a spreadsheet saves it: without empty cells at the end of a row, with
- * commas for semicolons or tabs, and with two decimals in the third cell, such as 40.50 for 40.5; docs/LOTS-FORMAT.md
- * has the rules. Nothing is refused: a row whose quotation marks do not pair stays as it is. Each line of `table`
+ * Writes the plain table of a lot table as a spreadsheet saves it: without empty cells at the end of a row, with commas
+ * in place of semicolons or tabs, and with two decimals in the third cell, such as 40.50 for 40.5; docs/LOTS-FORMAT.md
+ * gives the rules. Nothing is refused: a row whose quotation marks do not pair stays as it is. Each line of `table`
  * becomes one line of the text, so the line in an explanation of the text (township_explain_lots) is the line of
- * `table`. The plain table of a plain table is that plain table.
+ * `table`. A plain table is its own plain table.
  */
 township_answer township_lots_plain(const uint8_t *table, size_t table_length, uint8_t *text, size_t room);
 
 /*
  * Writes to `land` the land that a description names on the plat of a lot table. A lot is taken whole, wherever it
- * lies; a section named alone is all land that the plat has there. On any verdict other than TOWNSHIP_ACCEPTED, `land`
- * is unchanged.
+ * lies; a section named alone means all land that the plat has there. On any verdict other than TOWNSHIP_ACCEPTED,
+ * `land` is unchanged.
  */
 township_answer township_lots_land_read(const township_lots *lots, const uint8_t *description,
                                         size_t description_length, township_land *land);
 
 /*
- * Writes the canonical text of land on the plat of a lot table, which township_lots_land_read reads by this table as
- * the same land, unless it exceeds the maximum size of a description. The land is on the table's plat if its date and
- * `own_lots` are those of the table. Land that was read without a table is also on the plat of any table with the
- * standard lots. A table whose `mapped` is 1 and whose `positions` are 0 has no lots, so this writes land in aliquot
- * parts alone.
+ * Writes the canonical text of land on the plat of a lot table. With this table, township_lots_land_read reads the text
+ * as the same land, unless it exceeds the maximum size of a description. The land is on the table's plat if its date
+ * and `own_lots` are those of the table. Land that was read without a table is also on the plat of any table with the
+ * standard lots. A table whose `mapped` is 1 and whose `positions` are 0 has no lots, so this writes land only in
+ * aliquot parts.
  */
 township_answer township_lots_land_text(const township_lots *lots, const township_land *land, uint8_t *text,
                                         size_t room);
@@ -782,7 +782,7 @@ typedef struct township_explanation {
     uint64_t end;
     uint64_t other_start;     /* the bytes of the other place in the input */
     uint64_t other_end;
-    uint64_t sentence;        /* the fault or the note in words, without the location; read a line feed in it, with the
+    uint64_t sentence;        /* the fault or the note in words, without the location; treat a line feed in it, with the
                                  two spaces after it, as one space */
     uint64_t sentence_length;
     uint64_t excerpt;         /* the lines that show the input, each with its line feed */
@@ -860,9 +860,9 @@ township_answer township_unread(const uint8_t *description, size_t description_l
 
 /*
  * Finds phrases in a text that you know are not land, such as the labels of your office: writes to `aside` where they
- * are, from left to right. Phrases are stored one after another, with offsets as for township_acres_many. A phrase is
- * found in uppercase or lowercase, but not within a word; at each place, the first one in your list counts. To have the
- * text read without them, write a space over each byte from `start` to before `end`, and pass the result to
+ * are, from left to right. Phrases are stored one after another, with offsets as for township_acres_many. Case does not
+ * matter, and a phrase is not found within a word; at each place, the first one in your list counts. To have the text
+ * read without them, write a space over each byte from `start` up to `end` (exclusive), and pass the result to
  * township_suggest.
  *
  * The phrases are refused if there are more than 65,536 of them, or more than 65,536 bytes, or if one of them names

@@ -1,7 +1,8 @@
 #!/bin/sh
 # Compares the documents with the other files of the repository: the man page, the names and numbers of refusals, the
 # names of modules and of files, the counts of instructions, and docs/TRUST.md. It needs no program, and takes seconds;
-# documents.sh beside it runs the examples, and tools/repeated compares names in the code, and other counts. The last line is 'N passed, 0 failed'.
+# documents.sh beside it runs the examples, and tools/repeated compares names in the code, and other counts. The last
+# line is 'N passed, 0 failed'.
 . "$(dirname "$0")/../lib.sh"
 cd "$work" || exit 1
 docs=$root/docs
@@ -160,5 +161,14 @@ all_read 'the counts of docs/BENCHMARKS.md' "$(wc -l < expected)" "$(wc -l < mea
 cp expected wanted
 cp measured found
 same 'the counts of docs/BENCHMARKS.md and of bench/expected'
+
+# The reading that documents show is that of a docstring whose example is run.
+shown() { sed -n '/^    1[.] T[.] 2 N[.].* 120[.]00 acres$/,/^ *\("""\)*$/p' "$1" | grep ' '; }
+shown "$root/bindings/python/src/township/_suggest.py" | grep -v '"""' > wanted
+for document in README.md docs/DESCRIPTIONS.md; do
+    shown "$root/$document" > found
+    [ -s found ] || echo 'no reading' > found
+    same "the reading that $document shows"
+done
 
 ended

@@ -42,6 +42,10 @@ def lake() -> Lots:
     return Lots.read(LAKE)
 
 
+def lake_without_its_date() -> Lots:
+    return Lots.read(LAKE.replace(",1912-03-04", ""))
+
+
 def parts() -> Lots:
     return Lots.read(PARTS)
 
@@ -231,6 +235,11 @@ class Descriptions(RefusalCase):
         self.assertEqual(lake().notes("sec. 14, lots 1 to 3."), [])
         note, = lake().notes("sec. 14, SE1/4 SW1/4.")
         self.assertTrue(note.sentence.startswith("SE1/4 SW1/4 is read as one part, the SE1/4 of the SW1/4"), note)
+        self.assertNotIn("acres", note.sentence)
+        # With the standard lots, the acreage is nominal: the table has another one for lot 1.
+        note, = Lots.of_figures(WHERE, {(5, 1): "40.45"}).notes("sec. 5, lot 1 and 3")
+        self.assertIn("acres", note.sentence)
+        self.assertNotIn("40.45", note.sentence)
 
     def test_readings(self):
         reading, = lake().suggest("Sec. 14: Lots 1, 2")
@@ -371,6 +380,36 @@ class Tracts(RefusalCase):
         self.assertEqual(lake().overlaps([("A", other), ("B", other), ("C", "sec. 14.")]), ())
         with self.assertRaisesRegex(ValueError, f"two different plats of {WHERE}"):
             lake().report_each([("A", Land.of(WHERE, "sec. 14."))])
+
+    def test_land_on_another_plat(self):
+        """The text of such land would name other land: on the plat of field notes, section 14 has no lake."""
+        standard, dated = Land.of(WHERE, "sec. 14."), Lots.read("section,lot,acres\nT,2,N,3,W,1912-03-04\n").land("sec. 14.")
+        for by, land in ((lake(), standard), (lake(), dated), (parts(), lake().land("sec. 14.")), (even(), lake().land("sec. 14.")),
+                         (lake(), lake_without_its_date().land("sec. 5, lot 1."))):
+            for call in (by.report, by.report_each, by.overlaps):
+                with self.subTest(by=by, call=call.__name__):
+                    with self.assertRaisesRegex(ValueError, f"two different plats of {WHERE}"):
+                        call([("A", land)])
+        # The standard lots are the same at each date.
+        self.assertEqual(even().report([("A", dated)]).total, Decimal("640.00"))
+
+    def test_land_of_other_lots(self):
+        """Two tables without a date, whose plats the library can't tell apart, with lots at other places."""
+        table = "section,lot,acres,land\nT,2,N,3,W\n14,1,38.50,"
+        whole, halved, moved = (Lots.read(f"{table}{land}\n") for land in (
+            "NE1/4NE1/4", "N1/2NE1/4NE1/4\n14,2,18.50,S1/2NE1/4NE1/4", "SE1/4NE1/4"))
+        for other in (halved, moved):
+            land = other.land("sec. 14, lot 1.")
+            for call in (whole.acres, whole.area, land.acres, township.Plats([whole]).acres):
+                with self.assertRaisesRegex(ValueError, f"two different plats of {WHERE}"):
+                    call(whole if call == land.acres else land)
+            for listed in (whole.report, whole.report_each, whole.overlaps):
+                with self.assertRaisesRegex(ValueError, f"two different plats of {WHERE}"):
+                    listed([("A", land)])
+        # The same lots with another acreage.
+        again = Lots.read(whole.csv().replace("38.50", "38.60"))
+        self.assertEqual(again.acres(whole.land("sec. 14, lot 1.")), Decimal("38.60"))
+        self.assertEqual(str(again.report([("A", whole.land("sec. 14, lot 1."))]).total), "38.60")
 
     def test_overlaps(self):
         more = [("C", "sec. 14, lot 5."), ("D", "sec. 14."), ("E", "sec. 14, lots 2 and 4.")]

@@ -154,6 +154,20 @@ class Townships(unittest.TestCase):
             (_, (reading,)), = Plats([lake()]).suggest(text)
             self.assertEqual(reading.acres, Decimal("543.15"), text)
 
+    def test_lots_that_only_the_table_has(self):
+        # A regular township has no lots in section 14. The township is in no heading.
+        others = Lots.read(LAKE.replace("T,2,N", "T,3,N").replace("71.10", "70.10"))
+        plats = Plats([others, lake(), even()])
+        for text, acres in (
+            ("L4 Sec 14-2N-3W", "71.10"), ("Lots 1, 2 of Sec 14-02N-03W", "50.75"), ("14-2N-3W: Lot 4", "71.10"),
+            ("Sec 14-3N-3W L4", "70.10"), ("Fractional NE/4 Sec 14-2N-3W", "150.55"), ("Kestrel L4 (E2NW) Sec 14-2N-3W", "71.10"),
+        ):
+            (_, (reading,)), = plats.suggest(text, ignore=["Kestrel"])
+            self.assertEqual((reading.acres, STANDARD in reading.assumptions), (Decimal(acres), False), text)
+        # A lot that the plat doesn't have; another range, of which there is no table; and two townships.
+        for text in ("L9 Sec 14-2N-3W", "L4 Sec 14-2N-4W", "L4 Sec 14-2S-3W", "L4 Sec 14-2N-3W, L4 Sec 14-3N-3W", "L4 Sec 14"):
+            self.assertEqual([list(part.readings) for part in plats.suggest(text)], [[]], text)
+
     def test_without_a_heading(self):
         (_, (reading,)), = self.plats().suggest("N2 Sec 14")
         self.assertEqual(reading.refused.number, 31)

@@ -226,6 +226,7 @@ impl Lots {
     /// # Ok::<(), Box<dyn std::error::Error>>(())
     /// ```
     pub fn land_acres(&self, land: &Land) -> Result<Acres, NoLandAcres> {
+        self.check_lots(land)?;
         let answer = ffi::lots_land_acres(&self.data, land.data());
         let answer = answer.on_one_plat(land.township(), self.township())?;
         match answer.accepted() {
@@ -240,6 +241,7 @@ impl Lots {
     ///
     /// The same as for [`Lots::land_acres`].
     pub fn land_area(&self, land: &Land) -> Result<Area, NoLandAcres> {
+        self.check_lots(land)?;
         let (answer, area) = ffi::lots_land_area(&self.data, land.data());
         let answer = answer.on_one_plat(land.township(), self.township())?;
         match answer.accepted() {
@@ -313,6 +315,19 @@ impl Lots {
         match answer.accepted() {
             Ok(answer) => Ok(Acres::from_hundredths(answer.hundredths)),
             Err(fault) => Err(self.description_refused(fault, description)),
+        }
+    }
+
+    /// Returns an error for land of a table whose plat has the same date, but whose lots lie at other
+    /// places. The library takes the two for one plat.
+    fn check_lots(&self, land: &Land) -> Result<(), OtherPlat> {
+        let of_plat = (land.township(), land.date()) == (self.township(), self.date());
+        match land.lots() {
+            Some(lots) if of_plat && self.has_land() && !self.has_lots_of(lots) => Err(OtherPlat {
+                first: land.township(),
+                second: self.township(),
+            }),
+            _ => Ok(()),
         }
     }
 

@@ -248,7 +248,7 @@ impl Plats {
     }
 
     /// Returns the lot table of a township, if it says where its lots lie: then descriptions are read by it.
-    fn table_of(&self, township: Township) -> Option<&Lots> {
+    pub(crate) fn table_of(&self, township: Township) -> Option<&Lots> {
         match self.get(township) {
             Some(Basis::Lots(lots)) => Some(lots).filter(|lots| lots.has_land()),
             _ => None,

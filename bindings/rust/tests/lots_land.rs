@@ -315,6 +315,34 @@ fn different_plats() {
 }
 
 #[test]
+fn land_of_other_lots() {
+    // Two tables without a date, whose plats the library can't tell apart, with lots at other places.
+    let table = |land: &str| -> Lots {
+        let text = format!("section,lot,acres,land\nT,2,N,3,W\n14,1,38.50,{land}\n");
+        text.parse().unwrap()
+    };
+    let whole = table("NE1/4NE1/4");
+    for other in [
+        table("N1/2NE1/4NE1/4\n14,2,18.50,S1/2NE1/4NE1/4"),
+        table("SE1/4NE1/4"),
+    ] {
+        let land = other.land("sec. 14, lot 1.").unwrap();
+        assert!(matches!(
+            whole.land_acres(&land),
+            Err(NoLandAcres::OtherPlat(_))
+        ));
+        assert!(matches!(
+            whole.land_area(&land),
+            Err(NoLandAcres::OtherPlat(_))
+        ));
+    }
+    // The same lots with another acreage.
+    let again: Lots = whole.to_string().replace("38.50", "38.60").parse().unwrap();
+    let land = whole.land("sec. 14, lot 1.").unwrap();
+    assert_eq!(again.land_acres(&land).unwrap().to_string(), "38.60");
+}
+
+#[test]
 fn tracts() {
     let tracts = [
         ("A", "sec. 14, lots 1 and 2."),

@@ -2,7 +2,7 @@
 
 mod samples;
 
-use samples::{lake, uneven};
+use samples::{lake, uneven, LAKE};
 use township::{
     suggest, suggest_without, Assumption, Lots, Manner, PartReadings, Phrases, Plats, Reading,
 };
@@ -201,6 +201,37 @@ fn land_before_its_heading() {
             "{text}"
         );
         assert!(!reading.assumes_standard_lots);
+    }
+}
+
+#[test]
+fn lots_that_only_the_table_has() {
+    // A regular township has no lots in section 14. The township is in no heading.
+    let others = Lots::read(
+        LAKE.replace("T,2,N", "T,3,N")
+            .replace("71.10", "70.10")
+            .as_bytes(),
+    );
+    let plats = Plats::new([others.unwrap(), lake()]).unwrap();
+    for (text, acres) in [
+        ("L4 Sec 14-2N-3W", "71.10"),
+        ("Lots 1, 2 of Sec 14-02N-03W", "50.75"),
+        ("Sec 14-3N-3W L4", "70.10"),
+        ("Fractional NE/4 Sec 14-2N-3W", "150.55"),
+    ] {
+        let mut parts = plats.suggest(text).unwrap();
+        let reading = only(parts.remove(0).suggestion.readings);
+        assert_eq!(
+            plats.acres(&reading.text).unwrap().to_string(),
+            acres,
+            "{text}"
+        );
+        assert!(!reading.assumes_standard_lots);
+    }
+    // A lot that the plat doesn't have; another range and another side, of which there is no table.
+    for text in ["L9 Sec 14-2N-3W", "L4 Sec 14-2N-4W", "L4 Sec 14-2S-3W"] {
+        let parts = plats.suggest(text).unwrap();
+        assert!(parts[0].suggestion.readings.is_empty(), "{text}");
     }
 }
 

@@ -197,7 +197,7 @@ fn push_token(
 /// damaged `1` after it, and the side of a range with letters for a meridian, as in `R3WBM`.
 fn size_of_first(token: Piece, bytes: &[u8], lower: &[u8], before: &[Piece]) -> Option<usize> {
     match token.kind {
-        Kind::BadNumber if bytes.len() == 6 && is_before_north_south(lower, token.end) => Some(2),
+        Kind::BadNumber if bytes.len() == 6 && is_of_register(token, lower, before) => Some(2),
         Kind::Other if is_range_and_section(bytes) && is_after_number(before) => Some(1),
         Kind::Other if matches!(bytes, [b'A', _, ..]) && is_after_section(lower, before) => Some(1),
         Kind::Other if is_damaged_corner(bytes) => Some(2),
@@ -207,9 +207,19 @@ fn size_of_first(token: Piece, bytes: &[u8], lower: &[u8], before: &[Piece]) -> 
     }
 }
 
-/// Whether N or S is at a place of a text in lowercase, as after the township of a register.
-fn is_before_north_south(lower: &[u8], place: usize) -> bool {
-    matches!(lower.get(place), Some(b'n' | b's'))
+/// Whether a number of six digits has the code of a state or the number of a section in its first two: N or S is after it,
+/// as in `080020N0030W`, or the side of a range before it, as in `02N03W149000`.
+fn is_of_register(token: Piece, lower: &[u8], before: &[Piece]) -> bool {
+    matches!(lower.get(token.end), Some(b'n' | b's'))
+        || (matches!(token.gap, Spacing::Nothing) && is_after_east_west(before))
+}
+
+/// Whether the last piece is the side of a range.
+fn is_after_east_west(before: &[Piece]) -> bool {
+    match before {
+        [.., last] => matches!(last.kind, Kind::EastWest(_)),
+        [] => false,
+    }
 }
 
 /// Whether a word is the side of a range, and the letter or the word for a section after it, as in `T2NR3WSEC22`.

@@ -62,8 +62,8 @@ fn is_plain_lead(pieces: &Pieces<'_>, index: usize, last: usize) -> bool {
         || is_same(word, b"covering")
 }
 
-/// Whether a section, a township, or an aliquot part is at an index that can be nothing else, after the names and the instrument of a record, as in
-/// `QCD AMES TO DOYLE NWSE 17-2N-3W`.
+/// Whether a section, a township, or an aliquot part is at an index that can be nothing else, after the names and the
+/// instrument of a record, as in `QCD AMES TO DOYLE NWSE 17-2N-3W`.
 pub(crate) fn ends_record(pieces: &Pieces<'_>, index: usize) -> bool {
     let is_place = matches!(pieces.kind(index), Kind::Sec) || pieces.is_township_word(index);
     if !is_place && !is_sure_part(pieces, index) {
@@ -283,6 +283,8 @@ fn is_crossing(word: &[u8]) -> bool {
         || is_same(word, b"traversing")
         || is_same(word, b"crosses")
         || is_same(word, b"entering")
+        || is_same(word, b"driveway")
+        || is_same(word, b"rd")
         || is_same(word, b"draining")
         || is_same(word, b"timber")
         || is_same(word, b"gravel")

@@ -6,6 +6,9 @@ use crate::remarks::Position;
 use twp_grammar::Kind;
 use twp_words::{is_company, is_same, is_state};
 
+/// The most pieces that are searched for a word: so the time for a text grows no faster than the text.
+pub(crate) const PIECES_SEARCHED: usize = 1_000;
+
 /// The most words of the name of a company.
 const COMPANY_MOST: usize = 4;
 
@@ -15,14 +18,17 @@ pub(crate) fn is_in_cell(pieces: &Pieces<'_>, index: usize) -> bool {
     (pieces.has_before(index, b'\t') || pieces.follows(index, b"|")) && !has_lots(pieces)
 }
 
-/// Whether a word for lots is in a text.
+/// Whether a word for lots is in a text, or may be, since the text has more pieces than are looked at.
 fn has_lots(pieces: &Pieces<'_>) -> bool {
-    for index in 0..pieces.len() {
+    for index in 0..PIECES_SEARCHED {
+        if index >= pieces.len() {
+            return false;
+        }
         if matches!(pieces.kind(index), Kind::Lot) || pieces.is(index, b"l") {
             return true;
         }
     }
-    false
+    true
 }
 
 /// Whether a dash with white space on both sides is at a place, after something that is said of land.

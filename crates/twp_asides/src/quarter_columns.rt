@@ -1,5 +1,6 @@
 //! More names of columns for aliquot parts: `QQ:`, `Qtr/Qtr:`, `LEGAL1:`.
 
+use crate::notes::PIECES_SEARCHED;
 use crate::pieces::{Pieces, plus};
 use twp_words::is_field;
 
@@ -49,8 +50,11 @@ impl<'a> Pieces<'a> {
             && ((is_name && self.size(value) == 4) || (is_alone && self.size(value) == 2))
     }
 
-    /// Whether one column of the text is for quarters, so that its value is no part of another one.
+    /// Whether one column of a text that isn't long is for quarters, so that its value is no part of another one.
     fn has_one_column_of_quarters(&self) -> bool {
+        if self.len() > PIECES_SEARCHED {
+            return false;
+        }
         let mut count: usize = 0;
         for index in 0..self.len() {
             let is_name = self.is(index, b"q")

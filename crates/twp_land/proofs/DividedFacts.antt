@@ -1,6 +1,8 @@
 -- The marks of half a divided position, as its bits show them, and the lowest mark of a position.
-use Rattle.std.proofs.Common.{◌≡◌, ◌==◌, ℕ, ◌+◌, ◌-◌, ◌*◌, ◌/◌, ◌%◌, ◌^◌, ◌<◌, ◌≤◌, ◌&&◌, ◌↔◌, Bool, true, false}
-use Rattle.std.proofs.Common.{List, cond, get_or, length, map, min, nat_le, nat_lt, leb, refl, sym, ap, ◌∙◌, inl, inr}
+use Rattle.std.proofs.Common.{◌≡◌, ◌==◌, ℕ, ◌+◌, ◌-◌, ◌*◌, ◌/◌, ◌%◌, ◌^◌, ◌<◌, ◌≤◌, ◌&&◌, ◌↔◌, Bool, true}
+use Rattle.std.proofs.Common.{false}
+use Rattle.std.proofs.Common.{List, cond, get_or, length, map, min, nat_le, nat_lt, leb, refl, sym, ap, ◌∙◌}
+use Rattle.std.proofs.Common.{inl, inr}
 use Rattle.std.proofs.Common.{arith, if◌then◌else◌}
 use Rattle.std.proofs.lemmas.Bool.{cases_Bool, cases_lt, eqb-true}
 use Rattle.std.proofs.lemmas.Bool.Decides.{nat_tests}
@@ -37,7 +39,8 @@ lower_mark divided first count after lowest byte here new is room few is_here is
           (λ less. omega (arith, found, less))
     ]
   where
-    next : after < here → here ≤ 100 → (after < mark_at divided (first + count) → here ≤ mark_at divided (first + count))
+    next : after < here → here ≤ 100
+        → (after < mark_at divided (first + count) → here ≤ mark_at divided (first + count))
         → (here < 100 → mark_at divided (first + count) ≡ here) → IsLowest divided first (count + 1) after new
     next more most least has = record {
       more = omega (arith, is_new, more, so_far.more);
@@ -88,7 +91,8 @@ same_test false false is = refl
 -- a byte less another is in a range exactly if its mark is
 in_range : (byte least most top : ℕ) → byte < 256 → least ≤ 100 → least ≤ most → most ≤ top → top < 256
     → (min byte 100 ≤ most ↔ byte ≤ top)
-    → leb ((byte + (256 - least)) % 256) (top - least) ≡ (nat_le least (min byte 100) && nat_le (min byte 100) most)
+    → leb ((byte + (256 - least)) % 256) (top - least)
+    ≡ (nat_le least (min byte 100) && nat_le (min byte 100) most)
 in_range byte least most top small few range above below marks = elim (cases_lt byte least) [
   | inl less ↦
       let low : nat_le least (min byte 100) ≡ false = grind (arith, nat_tests, less, few) in
@@ -121,22 +125,27 @@ place_bit : (divided : List ℕ) (first least most top within : ℕ) → first +
     → ((k : ℕ) → get_or divided k 0 < 256) → least ≤ 100 → least ≤ most → most ≤ top → top < 256
     → ((byte : ℕ) → byte < 256 → (min byte 100 ≤ most ↔ byte ≤ top)) → within < 32
     → mask_l (map (λ b. leb b (top - least)) (bytes_less least (chunk first 32 divided))) / 2 ^ within % 2
-    ≡ cond (nat_le least (mark_at divided (first + within)) && nat_le (mark_at divided (first + within)) most) 1 0
+    ≡ cond (nat_le least (mark_at divided (first + within)) && nat_le (mark_at divided (first + within)) most)
+    1 0
 place_bit divided first least most top within room small few range above below marks less =
     let p : ℕ → Bool = λ b. leb b (top - least) in
     let bytes = bytes_less least (chunk first 32 divided) in
     let long : length (chunk first 32 divided) ≡ 32 = length-chunk first 32 divided room in
-    let count : length bytes ≡ 32 = length-map (chunk first 32 divided) (λ x. (x + (256 - least)) % 256) ∙ long in
+    let count : length bytes ≡ 32 =
+    length-map (chunk first 32 divided) (λ x. (x + (256 - least)) % 256) ∙ long in
     let byte = get_or divided (first + within) 0 in
     let at : get_or bytes within 0 ≡ (byte + (256 - least)) % 256 =
-    get_or-map (λ x. (x + (256 - least)) % 256) (chunk first 32 divided) within 0 0 (omega (arith, long, less))
+    get_or-map (λ x. (x + (256 - least)) % 256) (chunk first 32 divided) within 0 0
+    (omega (arith, long, less))
     ∙ ap (λ n. (n + (256 - least)) % 256) (get_or-chunk first 32 divided within 0 less) in
     bit_mask_l (map p bytes) within
     ∙ ap bit
     (get_or-map p bytes within 0 false (omega (arith, count, less))
     ∙ ap p at
-    ∙ in_range byte least most top (small (first + within)) few range above below (marks byte (small (first + within)))
-    ∙ ap (λ n. nat_le least (min n 100) && nat_le (min n 100) most) (get_or_default divided (first + within) 0 NO_LAND (omega (arith, room, less))))
+    ∙ in_range byte least most top (small (first + within)) few range above below
+    (marks byte (small (first + within)))
+    ∙ ap (λ n. nat_le least (min n 100) && nat_le (min n 100) most)
+    (get_or_default divided (first + within) 0 NO_LAND (omega (arith, room, less))))
 
 pub columns_held : (divided : List ℕ) (first least most top bits : ℕ) (columns : Columns)
     → first + 32 ≤ length divided
@@ -144,10 +153,12 @@ pub columns_held : (divided : List ℕ) (first least most top bits : ℕ) (colum
     → ((byte : ℕ) → byte < 256 → (min byte 100 ≤ most ↔ byte ≤ top))
     → bits ≡ mask_l (map (λ b. leb b (top - least)) (bytes_less least (chunk first 32 divided)))
     → bits ≡ bits_of columns → AreColumns divided first least most columns
-columns_held divided first least most top bits columns room small few range above below marks is found within less =
+columns_held divided first least most top bits columns room small few range above below marks is found
+    within less =
     let bit : (bits_of columns / 2 ^ within % 2 == cond (in_columns columns within) 1 0) ≡ true =
     all_each 32 within (λ n. has_bit columns n) less (have_bits columns) in
-    same_test (nat_le least (mark_at divided (first + within)) && nat_le (mark_at divided (first + within)) most)
+    same_test
+    (nat_le least (mark_at divided (first + within)) && nat_le (mark_at divided (first + within)) most)
     (in_columns columns within)
     (sym (place_bit divided first least most top within room small few range above below marks less)
     ∙ ap (λ n. n / 2 ^ within % 2) (sym is ∙ found)
@@ -158,8 +169,11 @@ pub none_held : (divided : List ℕ) (first least most top bits : ℕ) → first
     → ((byte : ℕ) → byte < 256 → (min byte 100 ≤ most ↔ byte ≤ top))
     → bits ≡ mask_l (map (λ b. leb b (top - least)) (bytes_less least (chunk first 32 divided)))
     → bits ≡ 0 → AreNone divided first 32 least most
-none_held divided first least most top bits room small few range above below marks is none within less low high =
-    let test : (nat_le least (mark_at divided (first + within)) && nat_le (mark_at divided (first + within)) most) ≡ true =
+none_held divided first least most top bits room small few range above below marks is none within less low
+    high =
+    let test : (nat_le least (mark_at divided (first + within))
+    && nat_le (mark_at divided (first + within)) most)
+    ≡ true =
     grind (arith, nat_tests, low, high) in
     let bit : 0 / 2 ^ within % 2 ≡ 1 =
     ap (λ n. n / 2 ^ within % 2) (sym none ∙ is)
@@ -180,7 +194,8 @@ half_mark divided byte first start half within great is at =
 pub half_columns : (divided : List ℕ) (byte first start half least most : ℕ) (columns : Columns) → 100 < byte
     → first ≡ (byte - 101) * 64 → half ≡ first + start → AreColumns divided half least most columns
     → (within : ℕ) → within < 32
-    → (nat_le least (mark_in divided byte (start + within)) && nat_le (mark_in divided byte (start + within)) most)
+    → (nat_le least (mark_in divided byte (start + within))
+    && nat_le (mark_in divided byte (start + within)) most)
     ≡ in_columns columns within
 half_columns divided byte first start half least most columns great is at held within less =
     ap (λ m. nat_le least m && nat_le m most) (half_mark divided byte first start half within great is at)
@@ -197,7 +212,8 @@ half_none divided byte first start half least most great is at none within less 
 pub position_none : (divided : List ℕ) (byte first south north least most : ℕ) → 100 < byte
     → first ≡ (byte - 101) * 64 → south ≡ first → north ≡ first + 32 → AreNone divided south 32 least most
     → AreNone divided north 32 least most
-    → (within : ℕ) → within < 64 → least ≤ mark_in divided byte within → ¬ (mark_in divided byte within ≤ most)
+    → (within : ℕ) → within < 64 → least ≤ mark_in divided byte within
+    → ¬ (mark_in divided byte within ≤ most)
 position_none divided byte first south north least most great is at at' none none' within less low high =
     elim (cases_lt within 32) [
       | inl before ↦

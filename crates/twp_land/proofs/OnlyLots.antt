@@ -15,7 +15,8 @@ use Rattle.twp_land.proofs.MarkedLots.{at_lot, lot_of_marked, lot_places_are, ma
 use Rattle.twp_land.proofs.SectionMarks.{lot_of_number, whole_mark}
 
 -- a lot with a place
-pub lot_of_place : (positions divided : List ℕ) (s lot c r : ℕ) → marked positions divided s lot lot c r ≡ true
+pub lot_of_place : (positions divided : List ℕ) (s lot c r : ℕ)
+    → marked positions divided s lot lot c r ≡ true
     → 0 < lot → lot < 100 → HasLot (lotting (layout_of_bytes positions divided)) s lot
 lot_of_place positions divided s lot c r is some few =
     let parts = marked_parts positions divided s lot lot c r is in

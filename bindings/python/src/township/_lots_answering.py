@@ -83,7 +83,12 @@ class LotsAnswering(LotsReporting, LotsDrawing, Describing):
 
     def notes(self, description: Text) -> List[Note]:
         """Return the notes on an accepted description, as `Plat.notes` does. With the standard lots, the acreage in
-        them is nominal; otherwise it is that of the table."""
+        them is nominal; otherwise they have none.
+
+        >>> lots = township.Lots.read("section,lot,acres,land\\nT,2,N,3,W\\n14,1,38.50,NE1/4NE1/4\\n")
+        >>> print(lots.notes("sec. 14, SE1/4 SW1/4.")[0].sentence.partition(";")[0])
+        SE1/4 SW1/4 is read as one part, the SE1/4 of the SW1/4
+        """
         return self._notes_on(encoded(description), DESCRIPTION)
 
     def _notes_on(self, given: bytes, source: bytes) -> List[Note]:
@@ -102,6 +107,7 @@ class LotsAnswering(LotsReporting, LotsDrawing, Describing):
         """Return the exact area of the land described, or of a `Land`, in acres. `acres` returns it rounded."""
         area = _library.Fraction()
         if isinstance(description, Land):
+            self._check_lots(description)
             answer = _library.lots_land_area(byref(self._parts), byref(description._parts), byref(area))
         else:
             given = encoded(description)

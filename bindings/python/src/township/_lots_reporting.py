@@ -44,7 +44,7 @@ class LotsReporting(LotsPlaces):
         >>> report.total
         Decimal('161.00')
         """
-        return self.report_csv(list_of(tracts))
+        return self.report_csv(self._list_of(tracts))
 
     def report_csv(self, tracts: Text) -> LotsReport:
         """Return the same for a list of tracts (CSV, at most 1,048,576 bytes; see `docs/TRACTS-FORMAT.md`).
@@ -100,11 +100,24 @@ class LotsReporting(LotsPlaces):
         return list_of(many)
 
     def _answer(self, described: Described) -> _library.Answer:
-        """Return the library's answer to a description or land."""
+        """Return the library's answer to a description or land. Raise `ValueError` for land of another table's lots."""
         if isinstance(described, Land):
+            self._check_lots(described)
             return _library.lots_land_acres(byref(self._parts), byref(described._parts))
         text = encoded(described)
         return _library.lots_acres(byref(self._parts), text, len(text))
+
+    def _check_lots(self, land: Land) -> None:
+        """Raise `ValueError` for land of a table whose plat has the same date, but whose lots lie at other places.
+
+        The library takes the two for one plat.
+        """
+        lots = land.lots
+        if lots is None or lots is self or not self.has_land:
+            return
+        is_of_plat = (land.township, land.date) == (township_of(self._parts.township), self.date)
+        if is_of_plat and not self._has_lots_of(lots):
+            raise failure_of(_library.OTHER_PLAT, land.township)
 
     def _list_exception(self, answer: _library.Answer, given: bytes) -> Exception:
         """Return the exception for a list of tracts that is not accepted."""

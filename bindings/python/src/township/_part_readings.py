@@ -1,7 +1,8 @@
 """The readings of a text with the land of several townships: those of each of its parts."""
 from __future__ import annotations
 
-from typing import TYPE_CHECKING, Callable, List, NamedTuple, Optional, Sequence
+import re
+from typing import TYPE_CHECKING, Callable, Iterator, List, NamedTuple, Optional, Sequence, Tuple
 
 from . import _library
 from ._ignored import Ignored, Place, blanked, phrases_in, places_within
@@ -12,10 +13,16 @@ from ._split import TownshipText, split
 from ._standard_lots import with_standard_lots
 from ._suggested import readings_without
 from ._text import Text, encoded
-from ._township import Township
+from ._township import EastWest, NorthSouth, Township
 
 if TYPE_CHECKING:
     from ._lots import Lots
+
+#: The number of a township or a range, in digits.
+_NUMBER = re.compile(rb"(?<![0-9])0*[1-9][0-9]?(?![0-9])")
+
+#: The sides of the base line and of the principal meridian that a township can be on.
+_SIDES: Tuple[Tuple[NorthSouth, EastWest], ...] = (("N", "E"), ("N", "W"), ("S", "E"), ("S", "W"))
 
 #: Returns the lot table of a township, or `None` if its plat has the standard lots, or is not known.
 TableOf = Callable[[Township], "Optional[Lots]"]
@@ -73,8 +80,16 @@ def _readings_in(given: bytes, part: TownshipText, aside: Sequence[Place], table
     # The township may be in no heading of the text, but in that of each reading.
     found = readings(None)
     township = _only_township(found)
-    table = None if township is None else table_of(township)
-    return found if table is None else readings(table)
+    if township is not None:
+        table = table_of(township)
+        return found if table is None else readings(table)
+    # A lot that only this plat has, such as one beside a lake, may be the reason that there are no readings.
+    for numbered in () if found else _townships_numbered_in(blanked(text, moved)):
+        table = table_of(numbered)
+        by_table = found if table is None else readings(table)
+        if _only_township(by_table) == numbered:
+            return by_table
+    return found
 
 
 def _township_in(left: bytes) -> Optional[Township]:
@@ -92,6 +107,18 @@ def _township_at(left: bytes, start: int) -> Optional[Township]:
         return township_in_heading(left[start:])
     except Refused:
         return None
+
+
+def _townships_numbered_in(left: bytes) -> Iterator[Township]:
+    """Yield the townships whose number and range are next to each other in a text, on all sides.
+
+    >>> [str(each) for each in _townships_numbered_in(b"Sec 14-2N-3W")][5]
+    'T. 2 N., R. 3 W.'
+    """
+    numbers = [int(each) for each in _NUMBER.findall(left)]
+    for number, range_ in dict.fromkeys(zip(numbers, numbers[1:])):
+        for north_south, east_west in _SIDES:
+            yield Township(number, north_south, range_, east_west)
 
 
 def _only_township(found: Readings) -> Optional[Township]:

@@ -5,6 +5,8 @@ from ctypes import byref
 from typing import Iterable, Tuple
 
 from . import _library
+from ._land import Land
+from ._refused import failure_of
 from ._report import (
     Described,
     Overlap,
@@ -42,7 +44,7 @@ class Reporting:
         >>> report.total, report.remaining
         (Decimal('78.20'), Decimal('22959.37'))
         """
-        return self.report_csv(list_of(tracts))
+        return self.report_csv(self._list_of(tracts))
 
     def report_csv(self, tracts: Text) -> Report:
         """Return the report on a list of tracts (CSV, at most 1,048,576 bytes; see `docs/TRACTS-FORMAT.md`).
@@ -68,7 +70,7 @@ class Reporting:
         >>> answers[1].refusal, answers[1].inner, answers[2].refusal
         (Refusal(number=83, at=3), Refusal(number=64, at=12), Refusal(number=82, at=4))
         """
-        return self.report_each_csv(list_of(tracts))
+        return self.report_each_csv(self._list_of(tracts))
 
     def report_each_csv(self, tracts: Text) -> Tuple[TractAnswer, ...]:
         """Return the answer to each tract of a list (CSV).
@@ -90,7 +92,7 @@ class Reporting:
         >>> plat.overlaps([("A", "sec. 14."), ("B", "sec. 15."), ("C", "sec. 14, NE1/4; sec. 15, N1/2.")])
         (Overlap(first=0, second=2, acres=Decimal('160.00')), Overlap(first=1, second=2, acres=Decimal('320.00')))
         """
-        return self.overlaps_csv(list_of(tracts))
+        return self.overlaps_csv(self._list_of(tracts))
 
     def overlaps_csv(self, tracts: Text) -> Tuple[Overlap, ...]:
         """Return all overlaps in a list of tracts (CSV). Raise `Refused` as `report_each_csv` does.
@@ -100,6 +102,19 @@ class Reporting:
         """
         given = encoded(tracts)
         return accepted(overlaps_on(byref(self._parts), given), self._list_exception, given)
+
+    def _list_of(self, tracts: Iterable[Tuple[Text, Described]]) -> bytes:
+        """Return the list that tracts make. Raise `ValueError` for land on a plat with other lots than the standard ones.
+
+        The text of such land would name other land on this plat.
+        """
+        many = list(tracts)
+        for _, described in many:
+            if isinstance(described, Land):
+                answer = _library.land_acres(byref(self._parts), byref(described._parts), _library.EXACT)
+                if answer.verdict == _library.OTHER_PLAT:
+                    raise failure_of(answer.verdict, described.township)
+        return list_of(many)
 
     def _list_exception(self, answer: _library.Answer, given: bytes) -> Exception:
         """Return the exception for a list of tracts that is not accepted."""

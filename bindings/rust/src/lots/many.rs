@@ -53,7 +53,7 @@ impl Lots {
     }
 
     /// Returns the notes on an accepted description: see [`Plat::notes`]. With the standard lots, the
-    /// acreage in a note is nominal; otherwise it is that of the table.
+    /// acreage in a note is nominal; otherwise a note has none.
     ///
     /// # Errors
     ///

@@ -9,7 +9,7 @@ use crate::lots::Lots;
 use crate::plats::{Basis, Plats};
 use crate::refused::Refused;
 use crate::split::{split, township_in_heading};
-use crate::township::Township;
+use crate::township::{EastWest, NorthSouth, Township};
 
 /// The readings of the part of a text that is about one township. See [`Plats::suggest`].
 #[derive(Clone, Debug, PartialEq, Eq, Hash)]
@@ -90,12 +90,28 @@ impl Plats {
     fn readings_in(&self, part: &str, left: &str, aside: &[Range<usize>]) -> Suggestion {
         let readings =
             |lots: Option<&Lots>| readings_without(part.as_bytes(), aside, lots.map(Lots::data));
-        let township = township_in(left).or_else(|| only_township(&readings(None)));
+        let township = township_in(left).or_else(|| match readings(None) {
+            found if found.readings.is_empty() => self.township_of_lots(left, readings),
+            found => only_township(&found),
+        });
         match township.and_then(|township| self.get(township)) {
             Some(Basis::Lots(lots)) => readings(Some(lots)),
             Some(Basis::Plat(_)) => readings(None),
             None => readings(None).with_standard_lots(),
         }
+    }
+
+    /// Returns the township of a text that has readings only by the lot table of this township, since it
+    /// names lots that the table has, such as those beside a lake.
+    fn township_of_lots(
+        &self,
+        left: &str,
+        readings: impl Fn(Option<&Lots>) -> Suggestion,
+    ) -> Option<Township> {
+        townships_numbered_in(left).find(|&township| {
+            let found = self.table_of(township).map(|lots| readings(Some(lots)));
+            found.is_some_and(|found| only_township(&found) == Some(township))
+        })
     }
 }
 
@@ -148,6 +164,29 @@ fn township_in(left: &str) -> Option<Township> {
         _ => 0,
     };
     township_in_heading(left.get(start..)?).ok()
+}
+
+/// Returns an iterator over the townships whose number and range are next to each other in a text, on all
+/// sides.
+fn townships_numbered_in(left: &str) -> impl Iterator<Item = Township> {
+    let numbers: Vec<u8> = left
+        .split(|each: char| !each.is_ascii_digit())
+        .filter_map(|digits| digits.parse().ok())
+        .collect();
+    let sides = [
+        (NorthSouth::North, EastWest::East),
+        (NorthSouth::North, EastWest::West),
+        (NorthSouth::South, EastWest::East),
+        (NorthSouth::South, EastWest::West),
+    ];
+    let pairs = (1..numbers.len()).map(move |index| (numbers[index - 1], numbers[index]));
+    pairs.flat_map(move |(number, range)| {
+        sides
+            .into_iter()
+            .filter_map(move |(north_south, east_west)| {
+                Township::new(number, north_south, range, east_west)
+            })
+    })
 }
 
 /// Returns the township in the headings of readings, if all of them have the same one.

@@ -4,7 +4,8 @@ use Rattle.twp_excerpt.specs.Signs.{width}
 use Rattle.twp_excerpt.proofs.FitFacts.{front_begins, front_grows}
 use Rattle.twp_excerpt.proofs.FitFacts.{front_whole_found, front_cut_found}
 use Rattle.twp_excerpt.proofs.kept_part.front_within.Goals as goal
-use Rattle.twp_excerpt.proofs.kept_part.front_within.Goals.{else-loop-at-test, then-loop-at-test+then-more-room}
+use Rattle.twp_excerpt.proofs.kept_part.front_within.Goals.{else-loop-at-test}
+use Rattle.twp_excerpt.proofs.kept_part.front_within.Goals.{then-loop-at-test+then-more-room}
 
 pub loop-at-init : goal.loop-at-init
 loop-at-init c =

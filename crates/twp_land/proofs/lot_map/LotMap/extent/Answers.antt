@@ -21,7 +21,8 @@ returns-then-place-ne0-2-clause-empty c is = absurd (c.extent_in.ensures.half is
 
 pub returns-in-Nothing-extent_in-clause-empty : goal.returns-in-Nothing-extent_in-clause-empty
 returns-in-Nothing-extent_in-clause-empty c _ =
-    position_none c.args.self.now.divided c.args.position c.in-Some.first c.in-Some.first (c.in-Some.first + 32)
+    position_none c.args.self.now.divided c.args.position c.in-Some.first c.in-Some.first
+    (c.in-Some.first + 32)
     c.args.least c.args.most (omega (arith, c.if-position-le-NO_LAND.false)) c.in-Some.ensures.1 refl refl
     (c.in-Nothing.ensures.nothing refl) (c.in-Nothing-extent_in.ensures.nothing refl)
 
@@ -32,7 +33,8 @@ returns-in_default-south c =
       first = λ _. grind (arith, nat_tests, c.if-place-ne0.false);
       held = λ columns is. rw first
           (half_columns c.args.self.now.divided c.args.position c.in-Some.first 0 c.in-Some.first c.args.least
-          c.args.most columns (omega (arith, c.if-position-le-NO_LAND.false)) c.in-Some.ensures.1 (omega arith)
+          c.args.most columns (omega (arith, c.if-position-le-NO_LAND.false)) c.in-Some.ensures.1
+          (omega arith)
           (c.extent_in-south.ensures.held columns is));
       nothing = λ is. absurd (c.in_default-south.not-Nothing is);
       whole = λ _. first;

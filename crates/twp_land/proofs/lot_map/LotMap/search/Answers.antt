@@ -28,7 +28,8 @@ returns-in-Held c =
     let self = c.args.self.now in
     record {
       next =
-          half_next self.positions self.divided c.args.section c.args.least c.args.most c.args.from c.places.at
+          half_next self.positions self.divided c.args.section c.args.least c.args.most c.args.from
+          c.places.at
           c.position-position.result c.in-Held.columns c.half_at.result c.places-test.true
           (c.in-Held.ensures.first (λ other. cc other)) c.position-position.ensures
           (c.in-Held.ensures.held c.in-Held.columns refl) c.half_at.ensures.start c.half_at.ensures.width
@@ -43,8 +44,10 @@ returns-then-is_between-2 c =
           rw c.place_at.ensures
           (place_next self.positions self.divided c.args.section c.args.least c.args.most c.args.from
           c.places.at c.position-position.result c.places-test.true c.position-position.ensures
-          (grind (arith, nat_tests, c.if-is_between-2.true, c.is_between-in-Mixed.ensures, c.mark-mark.ensures))
-          (grind (arith, nat_tests, c.if-is_between-2.true, c.is_between-in-Mixed.ensures, c.mark-mark.ensures))
+          (grind
+          (arith, nat_tests, c.if-is_between-2.true, c.is_between-in-Mixed.ensures, c.mark-mark.ensures))
+          (grind
+          (arith, nat_tests, c.if-is_between-2.true, c.is_between-in-Mixed.ensures, c.mark-mark.ensures))
           c.places.invariant.more c.places.invariant.passed);
     }
 
@@ -85,6 +88,7 @@ places-preserved c =
           place_passed self.positions self.divided c.args.section c.args.least c.args.most c.args.from
           c.places.at
           c.position-position.result c.position-position.ensures
-          (grind (arith, nat_tests, c.if-is_between-2.false, c.is_between-in-Mixed.ensures, c.mark-mark.ensures))
+          (grind
+          (arith, nat_tests, c.if-is_between-2.false, c.is_between-in-Mixed.ensures, c.mark-mark.ensures))
           c.places.invariant.passed;
     }

@@ -26,8 +26,10 @@ returns-then-is_some c =
     let self = c.args.self.now in
     let few : c.args.after < 99 = c.requires in
     let place =
-    (some_left c.next.result (marked self.positions self.divided c.args.section (c.args.after + 1) (c.args.after + 1))
-    (λ found. found.block) (λ found. found.end) c.next.ensures.next).0 (sym c.is_some.ensures ∙ c.if-is_some.true) in
+    (some_left c.next.result
+    (marked self.positions self.divided c.args.section (c.args.after + 1) (c.args.after + 1))
+    (λ found. found.block) (λ found. found.end) c.next.ensures.next).0
+    (sym c.is_some.ensures ∙ c.if-is_some.true) in
     following_lot self.positions self.divided c.args.section c.args.after
     (lot_of_place self.positions self.divided c.args.section (c.args.after + 1) place.0 place.1 place.2
     (omega arith) (omega (arith, few)))

@@ -27,6 +27,7 @@ returns c =
     rw c.is_some.ensures (
       λ is.
           let place = both.0 is in
-          lot_of_place self.positions self.divided c.args.section c.args.number place.0 place.1 place.2 some few,
+          lot_of_place self.positions self.divided c.args.section c.args.number place.0 place.1 place.2 some
+          few,
       λ has. both.1 (place_of_lot self.positions self.divided c.args.section c.args.number has),
     )

@@ -31,7 +31,8 @@ loop-found-preserved g c =
           each_next (marked self.positions self.divided c.args.section c.args.number c.args.number)
           c.loop-found.from
           (λ column row. ¬ (g.S.PlaceSet.places c.args.set.now c.args.section column row ≡ true))
-          c.in-Some-next.found.block c.in-Some-next.found.end c.in-Some-next.ensures.next c.loop-found.invariant.none
+          c.in-Some-next.found.block c.in-Some-next.found.end c.in-Some-next.ensures.next
+          c.loop-found.invariant.none
           (λ column row inside held. false≢true
           (c.if-meets.ensures.1
           (record { column = column; row = row; inside = inside; is_held = held })));

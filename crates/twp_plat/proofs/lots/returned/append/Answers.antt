@@ -25,7 +25,8 @@ pub returns-then-end-eq-RETURNED_MOST : goal.returns-then-end-eq-RETURNED_MOST
 returns-then-end-eq-RETURNED_MOST c =
     let more =
     counted_most c.args.entered.now c.loop-index.index
-    (omega (arith, c.loop-index-test.true, c.last_entered-index-end.ensures.most)) c.if-entered-index-ne0.true in
+    (omega (arith, c.loop-index-test.true, c.last_entered-index-end.ensures.most))
+    c.if-entered-index-ne0.true in
     omega (arith, more, c.loop-index.invariant.count, c.if-end-eq-RETURNED_MOST.true)
 
 pub loop-index-preserved : goal.loop-index-preserved
