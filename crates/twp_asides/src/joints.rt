@@ -125,8 +125,14 @@ impl<'a> Pieces<'a> {
         let next = plus(index, 2);
         self.is(index, b"s")
             && self.has_digits(plus(index, 1), 2)
-            && self.begins_land(next)
+            && (self.begins_land(next) || self.is_lot_with_number(next))
             && !self.is_joined(next)
+    }
+
+    /// Whether the letter for a lot is at an index, and its number is joined to it.
+    fn is_lot_with_number(&self, index: usize) -> bool {
+        let number = plus(index, 1);
+        self.is(index, b"l") && self.is_joined(number) && self.number(number).is_some()
     }
 
     /// Whether a section follows at an index, after aliquot parts without marks.

@@ -25,6 +25,7 @@ mod named_townships;
 mod notes;
 mod parcel_numbers;
 mod pieces;
+mod plain;
 mod quarter_columns;
 mod remark_ends;
 mod remarks;

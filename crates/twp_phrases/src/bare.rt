@@ -5,6 +5,7 @@ use twp_asides::plus;
 use twp_draft::{Form, LeftOut, PhraseKind, WrittenNumber};
 use twp_grammar::Kind;
 use twp_rules::Rule;
+use twp_words::{is_acres, is_of_time, is_same};
 
 /// The most phrases among which the label of a tract is looked for.
 const PHRASES_MOST: usize = 8;
@@ -47,16 +48,25 @@ impl<'a> Finder<'a> {
 
     /// The index of the number after the letter for a section at an index, and after a period, as in
     /// `S. 15, T. 2 N.`, or a colon, as in `S:15`: no half has such a number.
-    fn digits_of_letter(&self, index: usize) -> usize {
+    pub(crate) fn digits_of_letter(&self, index: usize) -> usize {
         let pieces = &self.draft.pieces;
         let next = plus(index, 1);
         let digits = plus(next, 1);
         let is_stop = pieces.is(next, b".")
             && pieces.is_joined(next)
             && !pieces.is_joined(digits)
-            && pieces.has_digits(digits, 2);
-        let is_colon = pieces.is(next, b":") && pieces.is_joined(next) && pieces.is_joined(digits);
+            && (pieces.has_digits(digits, 2) || pieces.is(plus(digits, 1), b":"));
+        let is_colon = pieces.is(next, b":") && pieces.is_joined(next);
         if is_stop || is_colon { digits } else { next }
+    }
+
+    /// Whether a number is at an index that is no fraction without its slash, nor a digit of one.
+    fn is_number_of_no_half(&self, index: usize) -> bool {
+        let pieces = &self.draft.pieces;
+        match pieces.number(index) {
+            Some(number) => !matches!(number, 0 | 1 | 2 | 4 | 12 | 14),
+            None => false,
+        }
     }
 
     /// The number of a section at an index after the letter for it.
@@ -64,7 +74,10 @@ impl<'a> Finder<'a> {
         let pieces = &self.draft.pieces;
         let next = plus(digits, 1);
         let has_stop = digits > plus(index, 1);
-        if !(pieces.is_joined(digits) || has_stop || pieces.is_township_word(next))
+        if !(pieces.is_joined(digits)
+            || has_stop
+            || pieces.is_township_word(next)
+            || self.is_number_of_no_half(digits))
             || (pieces.is_joined(next) && !pieces.is_after_tag(next))
         {
             return None;
@@ -76,14 +89,14 @@ impl<'a> Finder<'a> {
     /// or a section before it that is written so, and a colon after it, or land.
     fn is_sure_letter(&self, index: usize) -> bool {
         let pieces = &self.draft.pieces;
-        let digits = plus(index, 1);
-        let is_before_colon = pieces.is(plus(index, 2), b":");
+        let digits = self.digits_of_letter(index);
+        let is_before_colon = pieces.is(plus(digits, 1), b":");
         let is_list = match self.draft.last_section {
             Some(section) => pieces.is(section.first, b"s"),
             None => false,
         };
         (self.draft.last_kind() == Some(PhraseKind::Heading)
-            && (is_before_colon || pieces.is(digits, b":") || pieces.bytes(digits).len() >= 2))
+            && (is_before_colon || digits > plus(index, 1) || pieces.bytes(digits).len() >= 2))
             || (is_list && is_before_colon)
             || pieces.is_section_before_land(index)
             || self.is_section_after_land(index)
@@ -95,7 +108,7 @@ impl<'a> Finder<'a> {
     /// `SESW S31, L4 S31`: no half has such a number, with or without its slash.
     fn is_section_after_land(&self, index: usize) -> bool {
         let pieces = &self.draft.pieces;
-        let digits = plus(index, 1);
+        let digits = self.digits_of_letter(index);
         let end = plus(digits, 1);
         let is_after_land = match self.draft.phrases.last() {
             Some(placed) => {
@@ -107,11 +120,11 @@ impl<'a> Finder<'a> {
             }
             None => false,
         };
-        let is_last = end >= pieces.len() || pieces.is(end, b",") || pieces.is(end, b";");
-        is_after_land
-            && is_last
-            && pieces.has_digits(digits, 2)
-            && !(pieces.is(digits, b"12") || pieces.is(digits, b"14"))
+        let is_last = end >= pieces.len()
+            || pieces.is(end, b",")
+            || pieces.is(end, b";")
+            || pieces.begins_column(end);
+        is_after_land && is_last && self.is_number_of_no_half(digits)
     }
 
     /// Whether the letter and the number at an index, before a township that ends at another, may be a half of a
@@ -241,7 +254,8 @@ impl<'a> Finder<'a> {
         }
         self.is_before_end_or_and(next)
             || self.end_of_heading(next).is_some()
-            || (self.draft.pieces.follows(index, b"of") && self.is_before_dash_or_except(next))
+            || (self.draft.pieces.follows(index, b"of")
+                && (self.is_before_dash_or_except(next) || self.ends_number(next)))
     }
 
     /// Whether the number at an index is before a township, and no land before it, as in `GRAZING LAND 11 2N 3W`.
@@ -260,6 +274,26 @@ impl<'a> Finder<'a> {
     fn is_before_dash_or_except(&self, index: usize) -> bool {
         self.after_except(index).is_some()
             || (self.draft.pieces.is_dash(index) && !self.draft.pieces.is_joined(index))
+    }
+
+    /// Whether the piece at an index makes nothing else of the number before it, after a part and `of`: it is no unit, no
+    /// name, and isn't joined to it.
+    fn ends_number(&self, index: usize) -> bool {
+        let pieces = &self.draft.pieces;
+        let is_mark = pieces.is(index, b",")
+            || pieces.is(index, b";")
+            || pieces.is(index, b"?")
+            || pieces.is(index, b"!")
+            || pieces.is(index, b")")
+            || (pieces.is(index, b".") && !pieces.is_joined(plus(index, 1)));
+        let is_count = match pieces.kind(index) {
+            Kind::Lot | Kind::Of | Kind::Number(_) | Kind::BadNumber | Kind::All => true,
+            Kind::Other => {
+                is_unit(pieces.lower(index)) || matches!(pieces.bytes(index), [b'A'..=b'Z', ..])
+            }
+            _ => false,
+        };
+        is_mark || !(is_count || pieces.is_joined(index))
     }
 
     /// Whether the piece at an index begins a row.
@@ -372,6 +406,17 @@ impl<'a> Finder<'a> {
             // Alone on its line, it may be that of a page.
             return Some(next < pieces.len() && !pieces.has_before(next, b'\n'));
         }
+        let is_after_acreage = self.draft.last_kind()
+            == Some(PhraseKind::Nothing(LeftOut::Acreage));
+        if is_after_acreage
+            && self.names_land
+            && !pieces.is_joined(index)
+            && !pieces.is_joined(next)
+            && !is_after_comma
+            && pieces.begins_tier(next)
+        {
+            return Some(true);
+        }
         if self.draft.last_kind() != Some(PhraseKind::Part)
             || pieces.is_joined(index)
             || is_after_comma
@@ -407,4 +452,28 @@ impl<'a> Finder<'a> {
             || pieces.is(index, b"and")
             || pieces.is(index, b"&")
     }
+}
+
+/// Whether a word is for what a number before it counts, and no land.
+fn is_unit(word: &[u8]) -> bool {
+    is_acres(word)
+        || is_of_time(word)
+        || is_same(word, b"mile")
+        || is_same(word, b"miles")
+        || is_same(word, b"feet")
+        || is_same(word, b"foot")
+        || is_same(word, b"ft")
+        || is_same(word, b"rod")
+        || is_same(word, b"rods")
+        || is_same(word, b"chain")
+        || is_same(word, b"chains")
+        || is_same(word, b"percent")
+        || is_same(word, b"tracts")
+        || is_same(word, b"parcels")
+        || is_same(word, b"parts")
+        || is_same(word, b"shares")
+        || is_same(word, b"equal")
+        || is_same(word, b"quarters")
+        || is_same(word, b"halves")
+        || is_same(word, b"forties")
 }

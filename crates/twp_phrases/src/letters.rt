@@ -19,11 +19,10 @@ impl<'a> Finder<'a> {
     /// Whether the letter and the number at an index are before a colon and land, and no half has such a number.
     pub(crate) fn is_letter_before_colon(&self, index: usize) -> bool {
         let pieces = &self.draft.pieces;
-        let digits = plus(index, 1);
+        let digits = self.digits_of_letter(index);
         let colon = plus(digits, 1);
-        let may_be_half = pieces.is(digits, b"2")
-            || pieces.is(digits, b"4")
-            || pieces.is(digits, b"12");
+        let may_be_half = digits == plus(index, 1)
+            && (pieces.is(digits, b"2") || pieces.is(digits, b"4") || pieces.is(digits, b"12"));
         pieces.is(colon, b":")
             && !may_be_half
             && (pieces.begins_land(plus(colon, 1)) || pieces.is(plus(colon, 1), b"l"))

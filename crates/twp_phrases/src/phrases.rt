@@ -96,6 +96,7 @@ impl<'a> Finder<'a> {
                     || pieces.is(index, b"said")
                     || pieces.is(index, b"thereof")
                     || pieces.is(index, b"also")
+                    || pieces.is(index, b"plus")
                     || pieces.joins_together(index)
             }
             _ => false,

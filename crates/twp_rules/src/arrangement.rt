@@ -1,7 +1,7 @@
 //! Whether land lies with the section that the text gives it to.
 ghost use Rattle.std.specs.Prelude.{◌≡◌, ◌++◌, true, IfOk, None, drop, map, slice_range};
 ghost use Rattle.twp_rules.specs.Arrangement.{has_break, has_no_other, is_after, is_list_from, is_listed_at};
-ghost use Rattle.twp_rules.specs.Arrangement.{is_colon, is_no_other};
+ghost use Rattle.twp_rules.specs.Arrangement.{is_colon, is_joined, is_no_other};
 ghost use Rattle.twp_rules.specs.Arrangement.{is_number_with_colon, is_one_list, leads_to};
 ghost use Rattle.twp_rules.specs.Arrangement.{lie_from, lie_with_sections, lies, lies_after, lies_before};
 ghost use Rattle.twp_rules.specs.Changes.{seen};
@@ -10,6 +10,8 @@ ghost use Rattle.twp_rules.specs.steps.Sections.{begins_with_section, section_be
 use crate::alone::is_alone;
 use crate::apart::is_blank;
 use crate::change::Change;
+use crate::context::before;
+use crate::endings::beside::*;
 use crate::figures::without_white;
 use crate::keeping::rest_of;
 use crate::lying::Lying;
@@ -161,12 +163,21 @@ fn lies_before(text: &[u8], marks: &[Mark], last: Option<Lying>, it: Lying) -> b
     ensures { result ≡ lies_before text.now marks.now last it }
 {
     let Some(last) = last else {
-        return has_no_other(text, it, 0, it.land, marks) || has_break(part(text, 0, it.land));
+        return has_no_other(text, it, 0, it.land, marks)
+            || has_break(part(text, 0, it.land))
+            || is_joined(text, it);
     };
     !is_after(last)
         || (has_break(part(text, last.land, it.land))
             && !has_break(part(text, last.section, last.land))
             && !has_break(part(text, it.land, it.section)))
+}
+
+/// Whether `and` joins land to sections before it, and `of` is between the land and its own section.
+fn is_joined(text: &[u8], it: Lying) -> bool
+    ensures { result ≡ is_joined text.now it }
+{
+    has_land_joints(before(text, it.land)) && has_section_joints(before(text, it.section))
 }
 
 /// Whether no other section is from one place up to another, but those of the same list.

@@ -222,6 +222,7 @@ impl<'p, 'a> ChangeWriter<'p, 'a> {
         match self.plan.draft.pieces.lower(index) {
             b"," | b";" | b":" | b"." | b"&" | b"-" | b"|" | b"+" => true,
             b"/" => !is_comma,
+            b"plus" => is_comma,
             b"\xE2\x80\x93" | b"\xE2\x80\x94" => is_comma,
             _ => false,
         }
@@ -242,7 +243,11 @@ impl<'p, 'a> ChangeWriter<'p, 'a> {
     pub(crate) fn leads_on(&self, index: usize) -> bool {
         let pieces = &self.plan.draft.pieces;
         match pieces.kind(index) {
-            Kind::Other => pieces.is(index, b"also") || pieces.is(index, b"together"),
+            Kind::Other => {
+                pieces.is(index, b"also")
+                    || pieces.is(index, b"plus")
+                    || pieces.is(index, b"together")
+            }
             Kind::BadByte => pieces.is(index, b"+") || pieces.is(index, b"/"),
             _ => false,
         }

@@ -11,8 +11,8 @@ pub fn alters_land(word: &[u8]) -> bool {
         2 => is_among(word, 0x80000_00400000, "vs"),
         3 => is_among(
             word,
-            0x151612_000410b6,
-            "alt api bad bal del err gap lla rej",
+            0x151612_000410be,
+            "alt api bad bal cxl del err gap lla rej",
         ),
         4 => is_among(
             word,
@@ -241,6 +241,85 @@ pub fn is_land_by_name(word: &[u8]) -> bool {
         7 => is_among(word, 0x20_00000002, "acreage"),
         8 => is_among(word, 0x2000000_00010000, "property"),
         9 => is_among(word, 0x40000_00040000, "reservoir"),
+        _ => false,
+    }
+}
+
+/// Words for what lies in land, or for some of it, without an `s` at the end: slopes, waters, plants,
+/// buildings, ways, and marks on a map. No remark that nothing is known of contains them.
+pub fn lies_in_land(word: &[u8]) -> bool {
+    match word.len() {
+        3 => is_among(
+            word,
+            0x29560b0_009524f4,
+            "bar bay bog dam end fen few gap jog map pad pen pit rim tip top wye",
+        ),
+        4 => is_among(
+            word,
+            0x295d9f2_009d79fe,
+            "adit bank barn bend bldg burn core cove dale dike dock draw dump edge exit \
+             flat foot ford fork gate glen golf gore half hill kiln lake lane left many \
+             mesa mill mine more nook park part path pier plat plot pond pool post ramp \
+             road seep shed shop silo some spit spur tank tree wall well wood",
+        ),
+        5 => is_among(
+            word,
+            0x2b55972_00ddfbfe,
+            "alley arena basin bayou beach bench block bluff brink brook brush butte cabin \
+             canal circa cliff creek delta depot ditch drive extra fence ferry field flume \
+             grove gulch gully hedge house inlet inner knoll ledge levee lodge marsh mouth \
+             notch outer oxbow piece plant ridge shaft shoal shore shown slope space stake \
+             stall store strip swale swamp third tower track trail verge vista wedge",
+        ),
+        6 => is_among(
+            word,
+            0x29c71ba_00ff73fe,
+            "almost avenue border bottom bridge brushy burned canyon center centre church \
+             corner corral coulee dashed divide dotted excess fallow farmed forest fringe \
+             garage garden hangar hollow intake lagoon margin marina marked marker meadow \
+             middle mostly nearly parcel picnic plowed portal quarry ravine remain resort \
+             runway saddle school sewage shaded siding siphon sliver slough spring stable \
+             stream street tilled timber tinted tunnel uphill upland valley wooded",
+        ),
+        7 => is_among(
+            word,
+            0x21c58b2_00fff1ea,
+            "airport annexed antenna certain channel colored culvert estuary feedlot \
+             flooded gateway granary hatched highway hydrant lakebed landing lateral \
+             lowland meander nursery orchard portion pothole prairie pullout quarter \
+             rimrock roadway sandbar several smelter station terrace thalweg trailer \
+             trestle turnout upriver upslope various wayside wetland woodlot",
+        ),
+        8 => is_among(
+            word,
+            0x29579b8_00fdb57e,
+            "addition airstrip approach building cemetery clearcut cropland crossing \
+             detached downhill drainage driveway dwelling entrance forested frontage \
+             hayfield headgate headwork highland hillside hospital junction landfill \
+             leftover millsite monument outlined overflow overlook pictured pipeline \
+             railroad roadside selected specific spillway terminal tillable timbered \
+             townsite upstream vineyard windmill woodland",
+        ),
+        9 => is_among(
+            word,
+            0x140030_00cd10dc,
+            "boulevard creekside downriver downslope fenceline graveyard lakefront \
+             lakeshore panhandle pumphouse reservoir residence shoreline stockyard \
+             streambed structure submerged viewpoint watershed",
+        ),
+        10 => is_among(
+            word,
+            0x147030_009d20de,
+            "additional bottomland campground confluence cultivated designated downstream \
+             floodplain greenhouse midsection particular plantation playground riverfront \
+             streamside substation timberland waterfront",
+        ),
+        11 => is_among(
+            word,
+            0x4030_00180108,
+            "cattleguard highlighted schoolhouse subdivision transferred",
+        ),
+        12 => is_among(word, 0x4000_00000200, "intersection"),
         _ => false,
     }
 }

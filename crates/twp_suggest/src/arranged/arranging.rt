@@ -24,6 +24,9 @@ impl<'a> Plan<'a> {
             self.doubt_part_after_lots(list.as_slice());
         }
         match first {
+            Some(PhraseKind::Sections) if self.are_whole_before_land(list.as_slice()) => {
+                self.place_land_before(&mut list)
+            }
             Some(PhraseKind::Sections) => self.place_land_after(&mut list),
             Some(_) => self.place_land_before(&mut list),
             None => self.draft.doubt(),

@@ -1,6 +1,7 @@
 //! Land before its sections, as in `NE of Sec. 14`.
 
 use crate::arranged::plan::Plan;
+use twp_asides::plus;
 use twp_draft::{Form, IndexRange, Phrase, PhraseKind, Placed, Role};
 use twp_grammar::Kind;
 
@@ -50,6 +51,18 @@ impl LandSoFar {
             is_ended: false,
             is_unsure: false,
         }
+    }
+
+    /// Whether neither land nor a section was found.
+    fn is_first(&self) -> bool {
+        self.first.is_none() && self.section.is_none()
+    }
+
+    /// Takes sections that are whole, before any land.
+    fn take_whole(&mut self, phrase: Phrase) {
+        self.section = Some(phrase);
+        self.last = phrase.first;
+        self.group = self.group.saturating_add(1);
     }
 
     /// Whether what was found isn't sure when nothing follows.
@@ -112,6 +125,10 @@ impl<'a> Plan<'a> {
         let phrase = placed.phrase;
         match phrase.kind {
             PhraseKind::Nothing(_) | PhraseKind::Heading => {}
+            PhraseKind::Sections if found.is_first() => {
+                placed.role = Role::Kept(found.group);
+                found.take_whole(phrase);
+            }
             PhraseKind::Sections => {
                 placed.role = Role::LeftOut;
                 self.take_section_after_land(list, phrase, found);
@@ -261,9 +278,11 @@ impl<'a> Plan<'a> {
         found.lands = found.lands.saturating_add(1);
     }
 
-    /// Whether a section has no word for it.
+    /// Whether a section has no word for it, and no township after it.
     fn is_bare_number(&self, section: Phrase) -> bool {
-        matches!(self.draft.pieces.kind(section.first), Kind::Number(_))
+        let pieces = &self.draft.pieces;
+        let next = plus(section.end, usize::from(pieces.is_dash(section.end)));
+        matches!(pieces.kind(section.first), Kind::Number(_)) && !pieces.begins_tier(next)
     }
 
     /// Whether a phrase names the section that was named before, and no other.

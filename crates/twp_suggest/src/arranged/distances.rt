@@ -320,9 +320,10 @@ impl<'a> Plan<'a> {
             Kind::Comma | Kind::And => Distance::Comma,
             Kind::BadByte if !(pieces.is(index, b"\"") || pieces.is(index, b")")) =>
                 Distance::Comma,
-            Kind::Other if pieces.is(index, b"also") || pieces.is(index, b"together") => {
-                Distance::Comma
-            }
+            Kind::Other
+                if pieces.is(index, b"also")
+                    || pieces.is(index, b"plus")
+                    || pieces.is(index, b"together") => Distance::Comma,
             _ => Distance::Space,
         }
     }

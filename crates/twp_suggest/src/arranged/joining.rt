@@ -75,7 +75,9 @@ impl<'a> Plan<'a> {
                 after.kind,
                 PhraseKind::Part | PhraseKind::Lots | PhraseKind::All
             );
-            return is_land && self.has_and(before.end, after.first, left_out);
+            return is_land
+                && one.role == other.role
+                && self.has_and(before.end, after.first, left_out);
         }
         if one.role != other.role {
             return false;
@@ -175,6 +177,7 @@ impl<'a> Plan<'a> {
             let is_and = matches!(pieces.kind(index), Kind::And)
                 || pieces.is(index, b"&")
                 || pieces.is(index, b"also")
+                || pieces.is(index, b"plus")
                 || pieces.is(index, b"together");
             if index >= next && is_and {
                 return true;
@@ -228,6 +231,7 @@ impl<'a> Plan<'a> {
             if !(is_stop
                 || pieces.is(index, b"&")
                 || pieces.is(index, b"+")
+                || pieces.is(index, b"plus")
                 || pieces.is(index, b",")
                 || pieces.is(index, b";"))
             {

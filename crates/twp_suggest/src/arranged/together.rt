@@ -90,7 +90,9 @@ impl<'a> Plan<'a> {
     fn has_unsure_section(&self) -> bool {
         let counts = self.counts;
         (counts.sections > 1 && (self.has_loose_section() || self.has_section_aside()))
-            || ((counts.sections > 1 || counts.exceptions > 0) && self.has_closer_land())
+            || ((counts.sections > 1 || counts.exceptions > 0)
+                && self.has_closer_land()
+                && !self.are_whole_before_land(self.draft.phrases.as_slice()))
     }
 
     /// Whether some land may be missing. A word that isn't known may be what was meant by it: with remarks,

@@ -37,6 +37,39 @@ impl<'a> Plan<'a> {
     }
 }
 
+impl<'a> Plan<'a> {
+    /// Whether the first sections are whole, and all other land is before its own section, as in
+    /// `Sections 13 and 24 and the E/2 of Section 14`: `and` joins it to the first ones, and `of` is before each
+    /// further section.
+    pub(crate) fn are_whole_before_land(&self, list: &[Placed]) -> bool {
+        let mut end = None;
+        let mut has_land = false;
+        for placed in list {
+            let phrase = placed.phrase;
+            match (phrase.kind, end) {
+                (PhraseKind::Nothing(_) | PhraseKind::Heading, _) => {}
+                (PhraseKind::Sections, None) => end = Some(phrase.end),
+                (PhraseKind::Part | PhraseKind::Lots, Some(end)) if !has_land => {
+                    if !self.has_kind(end, phrase.first, Kind::And)
+                        && !self.draft.pieces.is(end, b"&")
+                    {
+                        return false;
+                    }
+                    has_land = true;
+                }
+                (PhraseKind::Part | PhraseKind::Lots, Some(_)) => {}
+                (PhraseKind::Sections, Some(_)) if has_land => {
+                    if !self.draft.pieces.follows(phrase.first, b"of") {
+                        return false;
+                    }
+                }
+                _ => return false,
+            }
+        }
+        has_land && !ends_with_land(list)
+    }
+}
+
 /// The index of the first phrase that isn't left out, or a township, if it names this.
 fn first_of(phrases: &[Placed], kind: PhraseKind) -> Option<usize> {
     for index in 0..phrases.len() {
