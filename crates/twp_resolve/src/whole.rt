@@ -26,7 +26,11 @@ pub fn may_be_whole(description: &Description) -> bool {
 
 /// Sets `land` to the land of a description on the plat of a regular township, if it names whole sections
 /// alone and has no fault, and returns whether that is so. If it isn't, the content of `land` has no meaning.
-pub fn resolve_whole(land: &mut WholeSections, description: &Description, township: Township) -> bool
+pub fn resolve_whole(
+    land: &mut WholeSections,
+    description: &Description,
+    township: Township,
+) -> bool
     ensures land { IsTrue result → IsLandOfItems STANDARD_LOTS township description.now
         (⟦<WholeSections as PlaceSet>⟧.places land.new) }
     ensures whole_lots { IsTrue result

@@ -87,8 +87,8 @@ is_joined text it =
     ends_with_one (take it.land text) land_joints && ends_with_one (take it.section text) section_joints
 
 -- land that is before its section: the land before it is, too; or the only break between the two sections is
--- between the two pieces of land. If there is no land before it, no other section is before it, or a break is, or it
--- is joined to the sections before it
+-- between the two pieces of land. If there is no land before it, no other section is before it, or a break
+-- is, or it is joined to the sections before it
 abbrev pub lies_before : List ℕ → List Mark → Option Lying → Lying → Bool
 lies_before text marks None it =
     has_no_other text it 0 it.land marks || has_break (slice_range text 0 it.land) || is_joined text it

@@ -158,7 +158,8 @@ tens_ends = texts (codes "-| ")
 
 -- meridians of which only letters are written, and states whose names begin with a side
 abbrev pub meridian_letters : List (List ℕ)
-meridian_letters = texts (codes "w. m.|w.m.|w m|n.m.p.m.|n.m.p.m|n. m. p. m.|s.l.m.|s.l.b.m.|s.l.b.&m.|s.b.m.")
+meridian_letters =
+    texts (codes "w. m.|w.m.|w m|n.m.p.m.|n.m.p.m|n. m. p. m.|s.l.m.|s.l.b.m.|s.l.b.&m.|s.b.m.")
     ++ texts (codes "north dakota|south dakota")
     ++ texts (codes "state of north dakota|state of south dakota")
 

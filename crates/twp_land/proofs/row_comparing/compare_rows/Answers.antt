@@ -22,7 +22,8 @@ loop-place-init c =
     let here : 6 * c.loop-tier.tier ≡ 6 * c.loop-tier.tier + 0 = omega arith in
     record {
       relates = subst (λ n.
-          RelatesTo n c.loop-tier.relation (land_of_rows c.args.rows.now) (land_of_rows c.args.other.now)) here
+          RelatesTo n c.loop-tier.relation (land_of_rows c.args.rows.now) (land_of_rows c.args.other.now))
+          here
           at.relates;
       whole = λ section lot least below. at.whole section lot least (omega (arith, below));
       whole_other = λ section lot least below. at.whole_other section lot least (omega (arith, below));
@@ -51,7 +52,8 @@ loop-place-preserved-then-are_empty c =
     (λ lot. whole_of_none (index + 1) lot _ empty.1)) in
     record {
       relates = subst (λ n.
-          RelatesTo n c.loop-place.relation (land_of_rows c.args.rows.now) (land_of_rows c.args.other.now)) next
+          RelatesTo n c.loop-place.relation (land_of_rows c.args.rows.now) (land_of_rows c.args.other.now))
+          next
           (relates_skip (land_of_rows c.args.rows.now) (land_of_rows c.args.other.now) index
           c.loop-place.relation _ _ part other none at.relates);
       whole = λ section lot least below. whole section lot least (omega (arith, below));
@@ -100,7 +102,9 @@ loop-place-preserved c =
     (land_of_rows c.args.other.now (index + 1)) is other both.1) in
     record {
       relates = subst (λ n.
-          RelatesTo n c.take_section.new.relation (land_of_rows c.args.rows.now) (land_of_rows c.args.other.now)) next
+          RelatesTo n c.take_section.new.relation (land_of_rows c.args.rows.now)
+          (land_of_rows c.args.other.now))
+          next
           (relates_next (land_of_rows c.args.rows.now) (land_of_rows c.args.other.now) index
           c.loop-place.relation c.take_section.new.relation _ _ part other c.take_section.ensures.contains
           c.take_section.ensures.is_contained c.take_section.ensures.shares at.relates);
@@ -114,7 +118,8 @@ loop-tier-preserved c =
     let next : 6 * c.loop-tier.tier + c.loop-place.place ≡ 6 * (c.loop-tier.tier + 1) = omega arith in
     record {
       relates = subst (λ n.
-          RelatesTo n c.loop-place.relation (land_of_rows c.args.rows.now) (land_of_rows c.args.other.now)) next
+          RelatesTo n c.loop-place.relation (land_of_rows c.args.rows.now) (land_of_rows c.args.other.now))
+          next
           at.relates;
       whole = λ section lot least below. at.whole section lot least (omega (arith, below));
       whole_other = λ section lot least below. at.whole_other section lot least (omega (arith, below));
@@ -128,6 +133,7 @@ returns c =
         λ section lot range. at.whole_other section lot range.0 (omega (arith, range.1)),
       ),
       c.comparison.ensures (land_of_rows c.args.rows.now) (land_of_rows c.args.other.now)
-          (relates_all held_by_lane c.args.rows.now c.args.other.now (6 * c.loop-tier.tier) c.loop-tier.relation
+          (relates_all held_by_lane c.args.rows.now c.args.other.now (6 * c.loop-tier.tier)
+          c.loop-tier.relation
           (omega arith) at.relates),
     )
