@@ -84,6 +84,14 @@ class Tables(unittest.TestCase):
                 with self.assertRaisesRegex(ValueError, f"there is no section {section}"):
                     call(section)
 
+    def test_numbers_that_are_not_integers(self):
+        # Neither a float nor text counts as a number, even if its value is a section's or a lot's.
+        for call in (lambda: lake().where(14, 2.0), lambda: lake().where(14.0, 2), lambda: lake().where("14", 2),
+                     lambda: lake().where(14, "2"), lambda: lake().where(14, None), lambda: lake().section(14.0),
+                     lambda: lake().section("14"), lambda: lake().section(None)):
+            with self.assertRaisesRegex(TypeError, "cannot be interpreted as an integer"):
+                call()
+
     def test_section(self):
         self.assertEqual(lake().section(14), (
             PlatLot(1, Decimal("38.50"), "NE1/4NE1/4"), PlatLot(2, Decimal("12.25"), "N1/2NW1/4NE1/4"),
