@@ -217,6 +217,28 @@ class Descriptions(RefusalCase):
                     self.assertIn(sentence or "", refused.sentence)
                     self.assertEqual(refused.hints, refused.hints if hints is None else hints)
 
+    def test_number_in_a_gap(self):
+        lots = Lots.read("section,lot,acres,land\nT,2,N,3,W\n" + "".join(
+            f"14,{lot},40.00,{part}1/4NE1/4\n" for lot, part in ((2, "NE"), (4, "NW"), (7, "SW"), (8, "SE"))))
+        sentence = "section 14 has lots 2, 4, 7, and 8"
+        for lot, hints in (
+            ("lot 3", ("the nearest lots are 2 and 4",)),
+            ("lot 5", ("the nearest lots are 4 and 7",)),
+            ("lot 6", ("the nearest lots are 4 and 7",)),
+            ("lots 2 to 3", ("the nearest lots are 2 and 4",)),
+            # The range is refused at its last number, which is a lot.
+            ("lots 2 to 8", ()),
+            # Before the first lot, and after the last one.
+            ("lot 1", ()),
+            ("lot 9", ()),
+            ("lot 300", ()),
+        ):
+            with self.subTest(lot=lot):
+                refused = self.refused(lots.acres, f"sec. 14, {lot}.")
+                self.assertEqual((refused.number, refused.sentence, refused.hints), (64, sentence, hints))
+        # Of the standard lots, none is missing between two others.
+        self.assertEqual(self.refused(Lots.new(WHERE).acres, "sec. 6, lot 8.").hints, ())
+
     def test_section_that_is_not_there(self):
         refused = self.refused(parts().acres, "secs. 19 to 21.")
         self.assertEqual((refused.number, refused.at), (68, 12))

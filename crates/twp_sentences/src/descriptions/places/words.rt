@@ -92,6 +92,41 @@ pub(crate) fn write_lots_of<P: Lotting>(
     write_ranges(section, lots, out)
 }
 
+/// Appends the lots nearest to a number, if it is in a gap between lots of the section.
+pub(crate) fn write_nearest_lots<P: Lotting>(
+    section: Section,
+    number: u16,
+    lots: &P,
+    out: &mut String,
+) -> Result<(), AllocError> {
+    match gap_around(section, number, lots) {
+        Some(gap) => write!(out, "the nearest lots are {} and {}", gap.before, gap.after),
+        None => Ok(()),
+    }
+}
+
+/// The lots before and after numbers that a section lacks.
+#[derive(Clone, Copy)]
+struct LotGap {
+    before: u8,
+    after: u8,
+}
+
+/// The gap that contains a number. None for a lot, and for a number before the first lot or after the last.
+fn gap_around<P: Lotting>(section: Section, number: u16, lots: &P) -> Option<LotGap>
+    ensures { IfSome result (λ gap. (gap.before < number) × (number < gap.after)) }
+{
+    let mut before = lots.next_lot(section, 0)?;
+    while u16::from(before) < number {
+        let after = lots.next_lot(section, before)?;
+        if u16::from(after) > number {
+            return Some(LotGap { before, after });
+        }
+        before = after;
+    }
+    None
+}
+
 /// Lots of a section, from the first to the last of a range without a gap.
 #[derive(Clone, Copy)]
 struct LotRange {
