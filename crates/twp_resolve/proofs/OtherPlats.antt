@@ -1,6 +1,6 @@
 -- Items that name neither a lot nor a whole section: their land is the same on each plat on which they lie.
 use Rattle.std.proofs.Common.{◌≡◌, ℕ, ◌||◌, Bool, true, false, List, [], ◌∷◌, suc, refl, sym, ap, ◌∙◌, arith}
-use Rattle.std.specs.List.{list_any, All as Every}
+use Rattle.std.specs.List.{All as Every}
 use Rattle.twp_grid.specs.Townships.{Designation}
 use Rattle.twp_grid.specs.Lands.{Layout, lotting, SamePlaces}
 use Rattle.twp_grammar.specs.declared.item.Item.{Item}
