@@ -3,7 +3,7 @@ ghost use Rattle.std.specs.Prelude.{◌≡◌, ◌≤◌, ◌<◌, ◌++◌, len
 ghost use Rattle.std.specs.Prelude.{IfOk, IfSome};
 ghost use Rattle.std.specs.Fmt.{decimal};
 ghost use Rattle.twp_diagnose.specs.RecordFields.{is_comma};
-ghost use Rattle.twp_grid.specs.Lands.{LOT_NUMBER_MOST, HasLot, lotting};
+ghost use Rattle.twp_grid.specs.Lands.{LOT_NUMBER_MOST, HasLot, IsNextLot, lotting};
 
 use std::alloc::{AllocError, Global};
 use twp_diagnose::PartOfLots;
@@ -112,9 +112,12 @@ struct LotGap {
     after: u8,
 }
 
-/// The gap that contains a number. None for a lot, and for a number before the first lot or after the last.
+/// The gap that contains a number: the lots on both sides of it. None for a lot, and for a number before the
+/// first lot or after the last.
 fn gap_around<P: Lotting>(section: Section, number: u16, lots: &P) -> Option<LotGap>
-    ensures { IfSome result (λ gap. (gap.before < number) × (number < gap.after)) }
+    ensures inside { IfSome result (λ gap. (gap.before < number) × (number < gap.after)) }
+    ensures nearest { IfSome result (λ gap. HasLot (lotting (P.layout lots.now)) section gap.before
+        × IsNextLot (lotting (P.layout lots.now)) section gap.before gap.after) }
 {
     let mut before = lots.next_lot(section, 0)?;
     while u16::from(before) < number {
