@@ -60,7 +60,8 @@ row 'the readings of a description' same
 row 'the readings of a text of a lease' 'a lease'
 row 'the readings of white space between parts' ways
 # Calls by a lot table. The lots of the second table are the standard ones, too, but it says where they lie, so calls by
-# it take the way of any plat: at most 1.3 times as many instructions. The third has halves of quarter-quarters.
+# it take the way of any plat: at most 1.3 times as many instructions. The third has halves of quarter-quarters, in which
+# three lots lie.
 for table in standard own; do
     of="by a table of the plat's own lots"
     [ "$table" = own ] || of='by a table of the standard lots'
@@ -72,6 +73,9 @@ done
 row 'a table of the standard lots to lots' table-read bench/lots-standard.csv
 row 'a table with land to lots' table-read bench/lots-own.csv
 row 'a table with land and lakes to lots' table-read bench/lots-lake.csv
+row 'three lots in halves, by a table with lakes' halves-table-two bench/lots-lake.csv
+row 'land of three lots in halves, by a table with lakes' halves-table-land bench/lots-lake.csv
+row 'text of three lots in halves, by a table with lakes' halves-table-text bench/lots-lake.csv
 
 "$work/library" samples/b1.csv one 1000000 |
     awk '{ printf "%-48s %10.0f a second\n", "one part, from C", 1000000 / $3 }'

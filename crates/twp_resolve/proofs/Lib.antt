@@ -7,4 +7,5 @@ pub mod ResolvingFacts
 pub mod SharedFacts
 pub mod LandLots
 pub mod DescribedLand
+pub mod OtherPlats
 pub mod RoomFacts
