@@ -55,6 +55,8 @@ applications 4
 conflicts 5
 deeds 4
 descriptions 3
+filed 4
+filed_list 1
 labels 2
 lake 1
 lake_leases 5
