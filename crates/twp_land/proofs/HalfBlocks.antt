@@ -9,7 +9,7 @@ use Rattle.twp_land.specs.LotMaps.{mark_in, mark_of, place_number}
 use Rattle.twp_land.specs.declared.lot_map.bytes.Columns.{Columns}
 use Rattle.twp_land.specs.declared.lot_map.bytes.Columns.TheVariants.{All, East, West}
 use Rattle.twp_land.specs.steps.LotBytes.{column_count, first_column, in_columns}
-use Rattle.twp_land.specs.steps.Marked.{PLACES, marked, IsNext}
+use Rattle.twp_land.specs.steps.Marked.{PLACES, marked, IsNextBlock}
 use Rattle.twp_land.proofs.MarkedFacts.{ArePassed, is_marked, marked_parts, number_of, position_mark}
 use Rattle.twp_land.proofs.SectionMarks.{inside_of, range_of}
 
@@ -126,7 +126,7 @@ pub half_next : (positions divided : List ℕ) (s least most from at position : 
     → block.columns.start ≡ at / 64 % 4 * 8 + first_column columns → block.columns.len ≡ column_count columns
     → block.rows.start ≡ at / 64 / 4 * 8 + at % 64 / 8 → block.rows.len ≡ 4 → from ≤ at
     → ArePassed positions divided s least most from at
-    → IsNext (marked positions divided s least most) from block (at + 32)
+    → IsNextBlock (marked positions divided s least most) from block (at + 32)
 half_next positions divided s least most from at position columns block less half is held start len row high
     order passed = record {
       more = omega (arith, order);

@@ -9,7 +9,7 @@ use Rattle.twp_grid.specs.Lands.{count_held, lotting}
 use Rattle.twp_grid.proofs.PlaceTests.{test_of_place}
 use Rattle.twp_land.specs.LotMaps.{NO_LAND, land_off_lots, layout_of_bytes, mark_of, place_number}
 use Rattle.twp_land.specs.Storage.{held_without}
-use Rattle.twp_land.specs.steps.Marked.{marked, below, NoneLeft, IsNext}
+use Rattle.twp_land.specs.steps.Marked.{marked, below, NoneLeft, IsNextBlock}
 use Rattle.twp_land.proofs.LeftFacts.{count, in_section_by_places, left_next, same_count}
 use Rattle.twp_land.proofs.MarkedFacts.{is_marked, marked_parts}
 use Rattle.twp_land.proofs.MarkedLoops.{below_next}
@@ -33,7 +33,7 @@ marks_first set held = same_count held (held_without held (below set 0)) (λ c r
         rw none (kept (held c r) (set c r))
 
 pub marks_next : (positions divided : List ℕ) (s from : ℕ) (held : ℕ → ℕ → Bool) (block : Rectangle) (end : ℕ)
-    → IsNext (off_land positions divided s) from block end
+    → IsNextBlock (off_land positions divided s) from block end
     → count (held_without held (below (off_land positions divided s) from))
     ≡ count (held_without held (below (off_land positions divided s) end)) + count_held held block
 marks_next positions divided s from held block end next =

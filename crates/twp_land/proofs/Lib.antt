@@ -12,6 +12,7 @@ pub mod LeftMarks
 pub mod LotBlocks
 pub mod LotFacts
 pub mod WholeLots
+pub mod WholeFacts
 pub mod LottingFacts
 pub mod RemovalFacts
 pub mod RowFacts

@@ -8,7 +8,7 @@ use Rattle.twp_grid.specs.Places.{PLACE_DIGITS, IsPlace, is_place}
 use Rattle.twp_grid.specs.Spans.{in_rectangle, place_block, position_block}
 use Rattle.twp_grid.proofs.PlaceTests.{place_of_test, test_of_place}
 use Rattle.twp_land.specs.LotMaps.{mark_in, mark_of, place_number}
-use Rattle.twp_land.specs.steps.Marked.{PLACES, marked, IsNext}
+use Rattle.twp_land.specs.steps.Marked.{PLACES, marked, IsNextBlock}
 
 -- the places of a section are numbered from 0, and those of a position one after another
 pub number_of : (c r : ℕ) → IsPlace PLACE_DIGITS c r
@@ -171,7 +171,7 @@ pub position_next : (positions divided : List ℕ) (s least most from at positio
     → at % 64 ≡ 0 → position ≡ get_or positions ((s - 1) * 16 + at / 64) 0
     → AreMarks divided position least most → from ≤ at
     → ArePassed positions divided s least most from at
-    → IsNext (marked positions divided s least most) from
+    → IsNextBlock (marked positions divided s least most) from
     (position_block PLACE_DIGITS (at / 64 % 4) (at / 64 / 4)) (at + 64)
 position_next positions divided s least most from at position less first is marks order passed =
     record {
@@ -201,7 +201,8 @@ pub place_next : (positions divided : List ℕ) (s least most from at position :
     → position ≡ get_or positions ((s - 1) * 16 + at / 64) 0
     → least ≤ mark_in divided position (at % 64) → mark_in divided position (at % 64) ≤ most → from ≤ at
     → ArePassed positions divided s least most from at
-    → IsNext (marked positions divided s least most) from (place_block (column_at at) (row_at at)) (at + 1)
+    → IsNextBlock (marked positions divided s least most) from (place_block (column_at at) (row_at at))
+    (at + 1)
 place_next positions divided s least most from at position less is low high order passed =
     let place = place_at_number at less in
     record {

@@ -7,14 +7,14 @@ use Rattle.std.proofs.lemmas.Bool.Decides.{nat_tests}
 use Rattle.twp_grid.specs.Spans.{Rectangle, in_rectangle}
 use Rattle.twp_grid.specs.Lands.{union, block_places, SharePlace, Meets}
 use Rattle.twp_land.specs.LotMaps.{place_number}
-use Rattle.twp_land.specs.steps.Marked.{PLACES, in_section, below, NoneLeft, IsNext}
+use Rattle.twp_land.specs.steps.Marked.{PLACES, in_section, below, NoneLeft, IsNextBlock}
 
 -- each place of a set that is numbered below this has a property
 abbrev pub EachBelow : (ℕ → ℕ → Bool) → ℕ → (ℕ → ℕ → Type 0) → Type 0
 EachBelow set from Is = (c r : ℕ) → set c r ≡ true → place_number c r < from → Is c r
 
 pub each_next : (set : ℕ → ℕ → Bool) (from : ℕ) (Is : ℕ → ℕ → Type 0) (block : Rectangle) (end : ℕ)
-    → IsNext set from block end → EachBelow set from Is
+    → IsNextBlock set from block end → EachBelow set from Is
     → ((c r : ℕ) → in_rectangle block c r ≡ true → Is c r) → EachBelow set end Is
 each_next set from Is block end next so_far of_block c r here less = elim (cases_lt (place_number c r) from) [
   | inl before ↦ so_far c r here before
@@ -26,7 +26,8 @@ pub each_left : (set : ℕ → ℕ → Bool) (from : ℕ) (Is : ℕ → ℕ → 
 each_left set from Is none so_far c r here = so_far c r here (none c r here)
 
 -- the places so far, and those of the next block
-pub below_next : (set : ℕ → ℕ → Bool) (from : ℕ) (block : Rectangle) (end c r : ℕ) → IsNext set from block end
+pub below_next : (set : ℕ → ℕ → Bool) (from : ℕ) (block : Rectangle) (end c r : ℕ)
+    → IsNextBlock set from block end
     → (below set from c r || in_rectangle block c r) ≡ below set end c r
 below_next set from block end c r next = elim (cases_Bool (in_rectangle block c r)) [
   | inl inside ↦
@@ -82,7 +83,7 @@ added_none section set old = record {
     nothing false false is_set less none = refl
 
 pub added_next : (section : ℕ) (set : ℕ → ℕ → Bool) (from : ℕ) (block : Rectangle) (end : ℕ)
-    (old now new : ℕ → ℕ → ℕ → Bool) → IsNext set from block end
+    (old now new : ℕ → ℕ → ℕ → Bool) → IsNextBlock set from block end
     → AreAddedBelow section set from old now → ¬ Meets (now section) block
     → new ≡ union now (block_places section block) → AreAddedBelow section set end old new
 added_next section set from block end old now new next so_far apart added = record {
@@ -158,7 +159,7 @@ added_all section set from old now none so_far =
 
 -- a block that shares a place with the set so far shares one with what it was
 pub met_next : (section : ℕ) (set : ℕ → ℕ → Bool) (from : ℕ) (block : Rectangle) (end : ℕ)
-    (old now : ℕ → ℕ → ℕ → Bool) → IsNext set from block end → AreAddedBelow section set from old now
+    (old now : ℕ → ℕ → ℕ → Bool) → IsNextBlock set from block end → AreAddedBelow section set from old now
     → Meets (now section) block → SharePlace old (in_section section set)
 met_next section set from block end old now next so_far met =
     let number = next.numbered met.column met.row met.inside in
@@ -183,9 +184,9 @@ met_next section set from block end old now next so_far met =
     only_first false false b less either is = absurd (false≢true either)
 
 -- a block after which nothing is left
-pub only_next : (set : ℕ → ℕ → Bool) (from : ℕ) (block : Rectangle) (end : ℕ) → IsNext set from block end
+pub only_next : (set : ℕ → ℕ → Bool) (from : ℕ) (block : Rectangle) (end : ℕ) → IsNextBlock set from block end
     → ((c r : ℕ) → set c r ≡ true → end ≤ place_number c r → PLACES ≤ place_number c r)
-    → IsNext set from block PLACES
+    → IsNextBlock set from block PLACES
 only_next set from block end next rest = record {
   more = omega (arith, next.more, next.within);
   within = omega arith;

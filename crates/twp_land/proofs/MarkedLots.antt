@@ -12,7 +12,7 @@ use Rattle.twp_grid.specs.Places.{PLACE_DIGITS, IsPlace, is_place}
 use Rattle.twp_grid.specs.Lands.{HasLot, lotting, lot_places, section_places}
 use Rattle.twp_grid.proofs.PlaceTests.{place_of_test, test_of_place}
 use Rattle.twp_land.specs.LotMaps.{NO_LAND, layout_of_bytes, mark_in, mark_of, marked_lot, place_number}
-use Rattle.twp_land.specs.steps.Marked.{in_section, marked, NoneLeft, IsNext}
+use Rattle.twp_land.specs.steps.Marked.{in_section, marked, NoneLeft, IsNextBlock}
 use Rattle.twp_land.specs.steps.LotMapLots.{map_are_lots, lot_of_mark}
 use Rattle.twp_land.proofs.MarkedFacts.{is_marked, marked_parts}
 
@@ -239,7 +239,7 @@ abbrev pub HasPlace : (ℕ → ℕ → Bool) → Type 0
 HasPlace set = (c : ℕ) × (r : ℕ) × (set c r ≡ true)
 
 pub some_left : {T : Type 0} (result : Option T) (set : ℕ → ℕ → Bool) (block : T → Rectangle) (end : T → ℕ)
-    → MatchOption result (NoneLeft set 0) (λ found. IsNext set 0 (block found) (end found))
+    → MatchOption result (NoneLeft set 0) (λ found. IsNextBlock set 0 (block found) (end found))
     → (IsTrue (is_some result) → HasPlace set) × (HasPlace set → IsTrue (is_some result))
 some_left None set block end none =
     (λ is. absurd (false≢true is), λ has. absurd (omega (arith, none has.0 has.1 has.2)))

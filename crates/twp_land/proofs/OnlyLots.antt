@@ -7,7 +7,7 @@ use Rattle.twp_grid.specs.Spans.{Rectangle, in_rectangle}
 use Rattle.twp_grid.specs.Lands.{ContainsAll, HasLot, HoldsAll, IsLotHeld, IsNextLot, Meets, SharePlace}
 use Rattle.twp_grid.specs.Lands.{block_places, lot_places, lotting}
 use Rattle.twp_land.specs.LotMaps.{layout_of_bytes, mark_in, mark_of}
-use Rattle.twp_land.specs.steps.Marked.{PLACES, marked, IsNext}
+use Rattle.twp_land.specs.steps.Marked.{PLACES, marked, IsNextBlock}
 use Rattle.twp_land.proofs.LotBlocks.{meets_of_share, share_of_meets}
 use Rattle.twp_land.proofs.LottingFacts.{contains_held}
 use Rattle.twp_land.proofs.MarkedFacts.{marked_parts, number_of}
@@ -53,7 +53,7 @@ following_lot positions divided s after has = record {
 
 -- the places of a lot that consists of a block
 only_places : (positions divided : List ℕ) (s lot : ℕ) (block : Rectangle)
-    → IsNext (marked positions divided s lot lot) 0 block PLACES → (c r : ℕ)
+    → IsNextBlock (marked positions divided s lot lot) 0 block PLACES → (c r : ℕ)
     → in_rectangle block c r ≡ marked positions divided s lot lot c r
 only_places positions divided s lot block next c r = elim (cases_Bool (in_rectangle block c r)) [
   | inl inside ↦ inside ∙ sym (next.is_set c r inside)
@@ -67,7 +67,7 @@ only_places positions divided s lot block next c r = elim (cases_Bool (in_rectan
 
 pub only_lot : (positions divided : List ℕ) (s lot : ℕ) (block : Rectangle)
     → HasLot (lotting (layout_of_bytes positions divided)) s lot
-    → IsNext (marked positions divided s lot lot) 0 block PLACES
+    → IsNextBlock (marked positions divided s lot lot) 0 block PLACES
     → block_places s block ≡ lot_places (lotting (layout_of_bytes positions divided)) s lot
 only_lot positions divided s lot block has next =
     fun_ext (λ o. fun_ext (λ c. fun_ext (λ r.
@@ -76,7 +76,7 @@ only_lot positions divided s lot block has next =
 
 pub only_apart : (positions divided : List ℕ) (places : ℕ → ℕ → ℕ → Bool) (s lot : ℕ) (block : Rectangle)
     → HasLot (lotting (layout_of_bytes positions divided)) s lot
-    → IsNext (marked positions divided s lot lot) 0 block PLACES → ¬ Meets (places s) block
+    → IsNextBlock (marked positions divided s lot lot) 0 block PLACES → ¬ Meets (places s) block
     → ¬ SharePlace places (lot_places (lotting (layout_of_bytes positions divided)) s lot)
 only_apart positions divided places s lot block has next apart shared =
     apart (meets_of_share places s block
@@ -84,7 +84,7 @@ only_apart positions divided places s lot block has next apart shared =
 
 pub only_shared : (positions divided : List ℕ) (places : ℕ → ℕ → ℕ → Bool) (s lot : ℕ) (block : Rectangle)
     → HasLot (lotting (layout_of_bytes positions divided)) s lot
-    → IsNext (marked positions divided s lot lot) 0 block PLACES → Meets (places s) block
+    → IsNextBlock (marked positions divided s lot lot) 0 block PLACES → Meets (places s) block
     → SharePlace places (lot_places (lotting (layout_of_bytes positions divided)) s lot)
 only_shared positions divided places s lot block has next met =
     subst (λ p. SharePlace places p) (only_lot positions divided s lot block has next)
@@ -92,7 +92,7 @@ only_shared positions divided places s lot block has next met =
 
 pub only_met : (positions divided : List ℕ) (s lot : ℕ) (held : ℕ → ℕ → Bool) (block : Rectangle)
     → HasLot (lotting (layout_of_bytes positions divided)) s lot
-    → IsNext (marked positions divided s lot lot) 0 block PLACES
+    → IsNextBlock (marked positions divided s lot lot) 0 block PLACES
     → Meets held block ↔ IsLotHeld (lotting (layout_of_bytes positions divided)) s held lot
 only_met positions divided s lot held block has next = (
   λ met.
@@ -117,7 +117,7 @@ only_met positions divided s lot held block has next = (
 
 pub only_held : (positions divided : List ℕ) (places : ℕ → ℕ → ℕ → Bool) (s lot : ℕ) (block : Rectangle)
     → HasLot (lotting (layout_of_bytes positions divided)) s lot
-    → IsNext (marked positions divided s lot lot) 0 block PLACES
+    → IsNextBlock (marked positions divided s lot lot) 0 block PLACES
     → HoldsAll (places s) block
     ↔ ContainsAll places (lot_places (lotting (layout_of_bytes positions divided)) s lot)
 only_held positions divided places s lot block has next =

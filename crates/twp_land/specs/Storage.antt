@@ -8,7 +8,7 @@ use Rattle.std.specs.Int.{bit_at}
 use Rattle.std.specs.Option.{option_map_or}
 use Rattle.twp_grid.specs.Winding.{SECTION_COUNT}
 use Rattle.twp_grid.specs.Places.{PLACE_DIGITS, is_place}
-use Rattle.twp_grid.specs.Spans.{Rectangle, in_rectangle}
+use Rattle.twp_grid.specs.Spans.{Rectangle, in_rectangle, whole_block}
 
 -- the empty set in one section
 abbrev pub nothing_held : ℕ → ℕ → Bool
@@ -21,6 +21,10 @@ with_block held block column row = held column row || in_rectangle block column 
 -- the places of a set without those of a block
 abbrev pub without_block : (ℕ → ℕ → Bool) → Rectangle → ℕ → ℕ → Bool
 without_block held block column row = held column row && not (in_rectangle block column row)
+
+-- the set in one section that contains each of its places, or none
+abbrev pub all_if : Bool → ℕ → ℕ → Bool
+all_if is column row = is && in_rectangle (whole_block PLACE_DIGITS) column row
 
 -- whether a number is that of a section
 abbrev pub is_section : ℕ → Bool

@@ -1,10 +1,11 @@
-//! Land: sets of places in a township. The trait `PlaceSet` says what each such set does, and the trait
-//! `Land` what else a set does that has room for all sections. `Grid` stores a test for each place, and
-//! `Lanes` a bit. `OneLanes` has room for the places of one section.
+//! Land: sets of places in a township. The trait `PlaceSet` says what each such set does, `GrowingSet` what a set does to
+//! which places are added, and `Land` what else a set does that has room for all sections. `Grid` stores a test for each
+//! place, and `Lanes` a bit. `OneLanes` has room for the places of one section, and `WholeSections` is made of whole sections.
 #![tactic(auto)]
 
 mod comparing;
 mod dividing;
+mod growing_set;
 mod land;
 mod land_rows;
 mod lanes;
@@ -24,9 +25,11 @@ mod row_comparing;
 mod rows;
 mod sections;
 mod whole_lots;
+mod whole_sections;
 
 pub use comparing::{Comparison, compare};
 pub use dividing::map_of_marks;
+pub use growing_set::GrowingSet;
 pub use land::Land;
 pub use land_rows::LandRows;
 pub use lanes::{LaneRows, Lanes};
@@ -43,3 +46,4 @@ pub use row_comparing::compare_rows;
 pub use rows::{Grid, Rows};
 pub use sections::Sections;
 pub use whole_lots::has_whole_lots_on;
+pub use whole_sections::WholeSections;

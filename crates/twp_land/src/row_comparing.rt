@@ -13,12 +13,16 @@ use crate::lots::has_whole_lots;
 use crate::plot::Plot;
 use crate::relation::Relation;
 use crate::row::Lane;
-use twp_grid::{PLACES_ACROSS, SECTIONS, Section};
+use twp_grid::{PLACES_ACROSS, SECTIONS, Section, lot_count};
+
+/// How many sections a tier has.
+const TIER: usize = 6;
 
 /// How a set of places compares to another. `None` if either contains part of a lot.
 ///
 /// Most land is in few sections. So one pass looks for the sections in which either set has a
-/// place, and only in these it looks at the lots and compares the sets.
+/// place, and only in these it looks at the lots and compares the sets. The loop over the sections of
+/// a tier is unrolled when it is compiled.
 pub fn compare_rows(rows: &LandRows, other: &LandRows) -> Option<Comparison>
     ensures { MatchOption result
         (¬ HaveWholeLots STANDARD_LOTS (land_of_rows rows.now) (land_of_rows other.now))
@@ -31,13 +35,16 @@ pub fn compare_rows(rows: &LandRows, other: &LandRows) -> Option<Comparison>
         is_contained: true,
         shares: false,
     };
-    for index in 0..SECTIONS as usize {
-        if are_empty(&rows[index], &other[index]) {
-            continue;
-        }
-        let section = Section::new(index as u8 + 1).unwrap();
-        if !take_section(&mut relation, section, &rows[index], &other[index]) {
-            return None;
+    for tier in 0..SECTIONS as usize / TIER {
+        for place in 0..TIER {
+            let index = TIER * tier + place;
+            if are_empty(&rows[index], &other[index]) {
+                continue;
+            }
+            let section = Section::new(index as u8 + 1).unwrap();
+            if !take_section(&mut relation, section, &rows[index], &other[index]) {
+                return None;
+            }
         }
     }
     Some(relation.comparison())
@@ -64,6 +71,9 @@ fn take_section(
     let plot = LaneRows::of_lanes(lanes);
     let more = LaneRows::of_lanes(other);
     relation.add(&plot, &more);
+    if lot_count(section) == 0 {
+        return true;
+    }
     if !has_whole_lots(&plot, section) {
         return false;
     }

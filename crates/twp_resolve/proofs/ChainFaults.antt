@@ -19,7 +19,7 @@ use Rattle.twp_grammar.specs.ItemPlaces.{item_of}
 use Rattle.twp_grid.specs.Lands.{HoldsLotPlace, LacksLand, Layout, lotting}
 use Rattle.twp_resolve.specs.steps.ResolvingSteps.{IsItemTaken, IsItemsFirstFault}
 use Rattle.twp_land.proofs.LotBlocks.{same_section, share_of_meets, meets_of_share}
-use Rattle.twp_resolve.proofs.ChainFacts.{chain_places}
+use Rattle.twp_grammar.proofs.ChainFacts.{chain_places}
 
 -- an aliquot part names a place of a lot
 abbrev NamesLot : Layout → ℕ → List Step → ℕ → Type 0

@@ -36,7 +36,7 @@ use Rattle.twp_grammar.specs.OnPlat.{IsTownshipLand}
 use Rattle.twp_grammar.proofs.Membership.{Among, among_contains, among_left}
 use Rattle.twp_grammar.proofs.Membership.{some_passes, passed}
 use Rattle.twp_grid.proofs.PlaceTests.{place_of_test, test_of_place}
-use Rattle.twp_resolve.proofs.ChainFacts.{chain_places}
+use Rattle.twp_grammar.proofs.ChainFacts.{chain_places}
 use Rattle.twp_land.proofs.LotBlocks.{same_section}
 use Rattle.twp_resolve.proofs.LandLots.{land_has_whole_lots}
 use Rattle.twp_grammar.proofs.TreeFacts.{tree_begins}

@@ -1,4 +1,3 @@
-pub mod ChainFacts
 pub mod ChainFaults
 pub mod RangeFacts
 pub mod RangeFaults
@@ -8,4 +7,5 @@ pub mod ResolvingFacts
 pub mod SharedFacts
 pub mod LandLots
 pub mod DescribedLand
+pub mod OtherPlats
 pub mod RoomFacts

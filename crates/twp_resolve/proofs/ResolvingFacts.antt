@@ -51,7 +51,7 @@ parts_count section [] = refl
 parts_count section (it ∷ items) = ap suc (parts_count (section_after section it) items)
 
 -- the item at an index, with its section
-pub record IsNext (items : List Item) (index section : ℕ) (it : Item) : Type 0 where
+pub record IsNextItem (items : List Item) (index section : ℕ) (it : Item) : Type 0 where
   pub within : index < length (parts_of items)
   pub here : (d : ItemOfSection) → get_or (parts_of items) index d ≡ item_of section it
   pub after : drop (index + 1) (parts_of items)
@@ -62,7 +62,8 @@ first_of x y xs ys e = (cc e, cc e)
 
 pub next_is : (items : List Item) (index section : ℕ) (it : Item) → index < length items
     → get_or items index it ≡ it
-    → drop index (parts_of items) ≡ with_sections section (drop index items) → IsNext items index section it
+    → drop index (parts_of items) ≡ with_sections section (drop index items)
+    → IsNextItem items index section it
 next_is items index section it inside at left = record {
   within = within;
   here = λ d. (both d).0;
@@ -90,7 +91,7 @@ pub taken_next : (lots : Lotting) (township : Designation) (items : List Item) (
     → AreTaken lots township items index section places → IsItemTaken lots township section it places new
     → AreTaken lots township items (index + 1) (section_after section it) new
 taken_next lots township items index section it places new inside at so_far taken =
-    let next : IsNext items index section it = next_is items index section it inside at so_far.left in
+    let next : IsNextItem items index section it = next_is items index section it inside at so_far.left in
     record {
       left = next.after;
       each = λ i d before within. elim (cases_lt i index) [
@@ -128,7 +129,7 @@ taken_next lots township items index section it places new inside at so_far take
     }
 
 -- the item at an index, as a part of the description
-pub part_is : (items : List Item) (index section : ℕ) (it : Item) → IsNext items index section it
+pub part_is : (items : List Item) (index section : ℕ) (it : Item) → IsNextItem items index section it
     → slice_get (parts_of items) index ≡ Some (item_of section it)
 part_is items index section it next =
     let part : ItemOfSection = item_of section it in
@@ -180,7 +181,8 @@ first_here lots township items index section it places fault inside at so_far re
         | inl later ↦ inl later
         | inr not_later ↦
             let same : index' ≡ index = omega arith in
-            let next : IsNext items index section it = next_is items index section it inside at so_far.left in
+            let next : IsNextItem items index section it =
+            next_is items index section it inside at so_far.left in
             let part : ItemOfSection = item_of section it in
             let p = other.part in
             let it_is : p ≡ part =

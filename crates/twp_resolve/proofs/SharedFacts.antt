@@ -25,7 +25,7 @@ use Rattle.twp_resolve.specs.steps.ResolvingSteps.{number_of_section}
 use Rattle.twp_resolve.specs.declared.shared.RefusedItem.{RefusedItem}
 use Rattle.twp_resolve.specs.steps.SharingSteps.{IsOverlap, IsRefusedItem, IsRefusedLand, IsFirstSharing}
 use Rattle.twp_resolve.proofs.PlaceAnswers.{IsFound, found, one_fault, no_fault}
-use Rattle.twp_resolve.proofs.ResolvingFacts.{AreTaken, IsNext, next_is, part_is, fault_here, first_here}
+use Rattle.twp_resolve.proofs.ResolvingFacts.{AreTaken, IsNextItem, next_is, part_is, fault_here, first_here}
 use Rattle.twp_resolve.proofs.ResolvingFacts.{refused_here, may_be_taken, SectionKnown}
 
 -- the places of the item at an index
@@ -37,7 +37,7 @@ places_of_part lots items index section it part =
     ap (λ part. option_map_or (λ (p : ItemOfSection). item_places lots p s c r) part false) part)))
 
 places_here : (lots : Lotting) (items : List Item) (index section : ℕ) (it : Item)
-    → IsNext items index section it
+    → IsNextItem items index section it
     → places_at lots items index ≡ item_places lots (item_of section it)
 places_here lots items index section it next =
     places_of_part lots items index section it (part_is items index section it next)
@@ -176,7 +176,7 @@ pub apart_next : (lots : Lotting) (township : Designation) (items : List Item) (
     → ¬ SharePlace new named
     → AreApart lots items (index + 1) (section_after section it) later
 apart_next lots township items index section later it new named inside there so_far taken are free =
-    let next : IsNext items index section it = next_is items index section it inside there so_far.left in
+    let next : IsNextItem items index section it = next_is items index section it inside there so_far.left in
     record {
       left = next.after;
       apart = λ i before. elim (cases_lt i index) [
@@ -203,7 +203,7 @@ pub sharing_here : (lots : Lotting) (township : Designation) (items : List Item)
     → IsFirstSharing lots items index later common
 sharing_here lots township items index section later it new named common inside there before so_far taken are
     shared is =
-    let next : IsNext items index section it = next_is items index section it inside there so_far.left in
+    let next : IsNextItem items index section it = next_is items index section it inside there so_far.left in
     let places : new ≡ places_at lots items index =
     only_places lots township section it new taken ∙ sym (places_here lots items index section it next) in
     record {

@@ -1,21 +1,19 @@
-ghost use Rattle.std.specs.Prelude.{◌≡◌, ◌≤◌, List, length, IfSome, IfOk, IfErr};
-ghost use Rattle.std.specs.Prelude.{IsTrue};
-ghost use Rattle.std.specs.Prelude.{MatchOption};
-ghost use Rattle.std.specs.Option.{SomeIff};
+ghost use Rattle.std.specs.Prelude.{◌≡◌, List, IfSome, IfOk, IfErr, IsTrue};
 ghost use Rattle.twp_grid.specs.Places.{PLACE_DIGITS};
-ghost use Rattle.twp_grid.specs.Cuts.{AreWithin, part_of, reached};
+ghost use Rattle.twp_grid.specs.Cuts.{part_of};
 ghost use Rattle.twp_grid.specs.Townships.{Designation};
-ghost use Rattle.twp_grammar.specs.ItemPlaces.{cut_of, cuts_of};
-ghost use Rattle.twp_resolve.specs.steps.ResolvingSteps.{CanCut, IsCutTo, IsItemTaken, IsItemsFirstFault};
+ghost use Rattle.twp_grammar.specs.ItemPlaces.{cut_of};
+ghost use Rattle.twp_grammar.specs.steps.CutSteps.{CanCut, IsCutTo};
+ghost use Rattle.twp_resolve.specs.steps.ResolvingSteps.{IsItemTaken, IsItemsFirstFault};
 ghost use Rattle.twp_grammar.specs.declared.item.Item.TheVariants.{Chain};
 ghost use Rattle.twp_grammar.specs.declared.item.Step.{Step as TakenStep};
 ghost use Rattle.twp_grid.specs.Lands.{lotting};
 
 use crate::place_fault::PlaceFault;
 use crate::ranges::add_block;
-use twp_grammar::{Step, Steps};
+use twp_grammar::{Step, Steps, chain_block};
 use twp_grid::{Block, PLACE_DIGITS, Section};
-use twp_land::{Lotting, PlaceSet};
+use twp_land::{GrowingSet, Lotting};
 
 /// The number of quarters that reach a place of a section, and the number that reach a square of
 /// four places.
@@ -24,7 +22,7 @@ const TO_A_PLACE: usize = PLACE_DIGITS;
 const TO_FOUR_PLACES: usize = PLACE_DIGITS - 1;
 
 /// Resolves an aliquot part of a section.
-pub(crate) fn resolve_chain<L: PlaceSet, P: Lotting>(
+pub(crate) fn resolve_chain<L: GrowingSet, P: Lotting>(
     land: &mut L,
     section: Section,
     steps: &Steps,
@@ -49,7 +47,7 @@ pub(crate) fn resolve_chain<L: PlaceSet, P: Lotting>(
 
 /// Adds the block that an aliquot part's steps reach in a section.
 #[inline(always)]
-fn resolve_block<L: PlaceSet, P: Lotting>(
+fn resolve_block<L: GrowingSet, P: Lotting>(
     land: &mut L,
     section: Section,
     block: Block,
@@ -72,21 +70,6 @@ fn resolve_block<L: PlaceSet, P: Lotting>(
         return Err(PlaceFault::NoLand { at });
     }
     add_block(land, section, block, at)
-}
-
-/// The block that an aliquot part's steps reach in a section, from the last step to the first.
-/// `None` if one of them would halve a side of one place.
-#[inline(always)]
-pub fn chain_block(steps: &Steps) -> Option<Block>
-    ensures { SomeIff result (AreWithin PLACE_DIGITS (cuts_of steps.now))
-        (reached PLACE_DIGITS (cuts_of steps.now)) }
-{
-    let first = steps.first();
-    let mut block = block_after(steps, first.len())?;
-    for index in (0..first.len()).rev() {
-        block = cut(block, first[index])?;
-    }
-    Some(block)
 }
 
 /// The smallest squares, a place and a square of four places, if quarters reach them. `None` for
@@ -126,29 +109,6 @@ fn quarter_of(block: Block, step: Step) -> Option<Block>
 {
     match step {
         Step::Half(_) => None,
-        Step::Quarter(corner) => block.quarter(corner),
-    }
-}
-
-/// The block that the steps from an index on reach in a section.
-fn block_after(steps: &Steps, start: usize) -> Option<Block>
-    requires { start ≤ length steps.now }
-    ensures { MatchOption result (¬ AreWithin PLACE_DIGITS (cuts_of steps.now))
-        (IsCutTo PLACE_DIGITS steps.now start) }
-{
-    let mut block = Block::whole();
-    for index in (start..steps.len()).rev() {
-        block = cut(block, steps.get(index).unwrap())?;
-    }
-    Some(block)
-}
-
-/// The half or the quarter of a block that a step takes.
-fn cut(block: Block, step: Step) -> Option<Block>
-    ensures { SomeIff result (CanCut block (cut_of step)) (part_of block (cut_of step)) }
-{
-    match step {
-        Step::Half(side) => block.half(side),
         Step::Quarter(corner) => block.quarter(corner),
     }
 }

@@ -1,7 +1,7 @@
 //! Laws of the places that items name. Each law is a contract, and its function does nothing.
 ghost use Rattle.twp_resolve.specs.Laws.{OnPlatHasNoFault, OnePlaceAnswer};
 ghost use Rattle.twp_resolve.specs.DescribedLand.{DescribedLandIsOfTownship};
-ghost use Rattle.twp_resolve.specs.DescribedLand.{DescriptionNamesSomePlace};
+ghost use Rattle.twp_resolve.specs.DescribedLand.{DescriptionNamesSomePlace, SameLandOnEachPlat};
 
 /// Items that lie on the plat without overlapping have no fault.
 pub fn on_plat_has_no_fault()
@@ -22,4 +22,10 @@ pub fn described_land_is_of_township()
 /// A description whose items lie on the plat without overlapping names at least one place.
 pub fn description_names_some_place()
     ensures { DescriptionNamesSomePlace }
+{}
+
+/// A description that names neither a lot nor a whole section means the same places on each plat on which it
+/// is accepted.
+pub fn same_land_on_each_plat()
+    ensures { SameLandOnEachPlat }
 {}

@@ -8,8 +8,9 @@ mod place_fault;
 mod ranges;
 mod resolving;
 mod shared;
+mod whole;
 
-pub use chain::chain_block;
 pub use place_fault::PlaceFault;
 pub use resolving::{names_one_section, resolve, resolve_if_room, resolve_into};
 pub use shared::{SharingItems, shared_into};
+pub use whole::{may_be_whole, resolve_whole};

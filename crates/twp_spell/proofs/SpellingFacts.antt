@@ -21,7 +21,7 @@ use Rattle.twp_spell.specs.CanonicalText.{IsLotHeld, IsSectionText, heading_line
 use Rattle.twp_spell.specs.CanonicalText.{IsSectionOfLand, IsCanonicalText}
 use Rattle.twp_spell.specs.CanonicalText.IsSectionList.{all, by_parts}
 use Rattle.twp_spell.specs.steps.Spelling.{parts_text, AreWritten}
-use Rattle.twp_spell.specs.steps.SpellingSteps.{entries_text, HasLots, HasSection, lines_begun, AreBegun}
+use Rattle.twp_spell.specs.steps.SpellingSteps.{entries_text, HasLotsText, HasSection, lines_begun, AreBegun}
 use Rattle.twp_grammar.proofs.Membership.{contains_among}
 use Rattle.twp_spell.proofs.Listings.{listed_as, listed_both, listed_none, listed_one}
 use Rattle.twp_spell.proofs.PartLaws.{hold_all}
@@ -196,7 +196,7 @@ entries_after (first ∷ entries) some = refl
 pub parts_done : (plan : Lotting) (places : ℕ → ℕ → ℕ → Bool) (section : ℕ) (old named lotted new : List ℕ)
     → ¬ HoldsEach plan section (places section) → HoldsSome plan.digits (places section)
     → named ≡ old ++ (codes "sec. " ++ decimal section)
-    → HasLots plan section (places section) named lotted
+    → HasLotsText plan section (places section) named lotted
     → AreWritten (AreWrittenParts plan.digits (off_lots plan section (places section))) lotted new
     → HasSection plan places section old new
 parts_done plan places section old named lotted new short some is has_lots has_parts =

@@ -32,30 +32,29 @@ impl Model for LineStart {
 }
 
 impl LineStart {
-    /// The start of the first line, after the heading's line, or that of a later one, after the end
-    /// of the previous line; both without the section's number.
+    /// Begins the first line, after the heading's line, or a later one, after the end of the previous
+    /// line; both without the section's number. It is filled in place, since returning it would copy it.
     #[inline(always)]
-    pub(crate) fn new(township: Township, is_first: bool) -> LineStart
-        ensures first { is_first ≡ true → result ≡ heading_line township ++ codes "sec. " }
-        ensures after { is_first ≡ false → result ≡ (codes ";" ++ line_end) ++ codes "sec. " }
-        ensures room { length result + NUMBER_MOST ≤ START_MOST }
+    pub(crate) fn begin(&mut self, township: Township, is_first: bool)
+        requires { self.old ≡ [] }
+        ensures first { is_first ≡ true → self.new ≡ heading_line township ++ codes "sec. " }
+        ensures after { is_first ≡ false → self.new ≡ (codes ";" ++ line_end) ++ codes "sec. " }
+        ensures room { length self.new + NUMBER_MOST ≤ START_MOST }
     {
-        let mut start = LineStart::empty();
         if !is_first {
-            start.push(b";\nsec. ");
-            return start;
+            self.push(b";\nsec. ");
+            return;
         }
-        start.push(b"T. ");
-        start.push_number(township.number());
-        start.push(after_number(township.north_south()));
-        start.push_number(township.range());
-        start.push(after_range(township.east_west()));
-        start
+        self.push(b"T. ");
+        self.push_number(township.number());
+        self.push(after_number(township.north_south()));
+        self.push_number(township.range());
+        self.push(after_range(township.east_west()));
     }
 
     /// Nothing yet.
     #[inline(always)]
-    fn empty() -> LineStart
+    pub(crate) fn empty() -> LineStart
         ensures { result ≡ [] }
     {
         LineStart {

@@ -5,7 +5,7 @@ ghost use Rattle.twp_grid.specs.Places.{PLACE_DIGITS};
 ghost use Rattle.twp_grid.specs.Listing.{AreListed};
 ghost use Rattle.twp_spell.specs.CanonicalText.{lots_entry, heading_line, line_end};
 ghost use Rattle.twp_spell.specs.CanonicalText.{HoldsSome, IsLotHeld, IsCanonicalText};
-ghost use Rattle.twp_spell.specs.steps.SpellingSteps.{entries_text, HasLots, HasSection, AreBegun};
+ghost use Rattle.twp_spell.specs.steps.SpellingSteps.{entries_text, HasLotsText, HasSection, AreBegun};
 ghost use Rattle.twp_grid.specs.Lands.{lotting};
 
 use crate::line_start::LineStart;
@@ -87,7 +87,8 @@ fn write_lead(township: Township, section: Section, text: &mut Vec<u8>) -> Resul
     ensures after { ¬ (text.old.items ≡ []) → OnOk result (text.new.items
         ≡ (text.old.items ++ (codes ";" ++ line_end)) ++ (codes "sec. " ++ decimal section)) }
 {
-    let mut start = LineStart::new(township, text.is_empty());
+    let mut start = LineStart::empty();
+    start.begin(township, text.is_empty());
     start.push_number(section.number());
     start.append_to(text)
 }
@@ -140,7 +141,7 @@ fn write_held_lots<L: PlaceSet, P: Lotting>(
     lots: &P,
     text: &mut Vec<u8>,
 ) -> Result<(), AllocError>
-    ensures { OnOk result (HasLots (lotting (P.layout lots.now)) section (L.places land.now section)
+    ensures { OnOk result (HasLotsText (lotting (P.layout lots.now)) section (L.places land.now section)
         text.old.items text.new.items) }
 {
     let held = held_lots(alloc, land, section, lots)?;

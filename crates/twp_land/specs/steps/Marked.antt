@@ -28,7 +28,7 @@ abbrev pub NoneLeft : (ℕ → ℕ → Bool) → ℕ → Type 0
 NoneLeft set from = (column row : ℕ) → set column row ≡ true → place_number column row < from
 
 -- the places of the set that are numbered from here to an end are those of this block
-pub record IsNext (set : ℕ → ℕ → Bool) (from : ℕ) (block : Rectangle) (end : ℕ) : Type 0 where
+pub record IsNextBlock (set : ℕ → ℕ → Bool) (from : ℕ) (block : Rectangle) (end : ℕ) : Type 0 where
   pub more : from < end
   pub within : end ≤ PLACES
   pub some : in_rectangle block block.columns.start block.rows.start ≡ true

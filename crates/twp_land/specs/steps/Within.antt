@@ -1,13 +1,15 @@
 -- Stored sets lie in the township: the proofs of the law of `Land` and `Plot`.
 use Rattle.std.proofs.Common.{◌≡◌, ◌==◌, ℕ, ◌-◌, Bool, true, false, List, Option, Some, None, nat_le}
-use Rattle.std.proofs.Common.{nat_lt, arith}
+use Rattle.std.proofs.Common.{nat_lt, arith, sym, ◌∙◌}
 use Rattle.std.specs.List.{slice_get}
 use Rattle.std.specs.Option.{option_map_or}
 use Rattle.std.proofs.lemmas.Bool.Decides.{nat_tests}
 use Rattle.std.proofs.lemmas.Bool.{and_parts}
 use Rattle.twp_grid.specs.Winding.{SECTION_COUNT, IsSection}
 use Rattle.twp_grid.specs.Places.{PLACE_DIGITS, places_across, is_place, IsPlace}
+use Rattle.twp_grid.proofs.PlaceTests.{whole_is_place}
 use Rattle.twp_land.specs.Storage.{is_section, held_by_section, held_in_one, held_by_row, held_by_lane}
+use Rattle.twp_land.specs.Storage.{all_if}
 
 -- a place of the section, from its test
 place_of : (column row : ℕ) → is_place PLACE_DIGITS column row ≡ true
@@ -56,3 +58,14 @@ one_within number held section column row within is =
     let sides = and_parts (nat_le 1 section) (nat_le section SECTION_COUNT) parts.0 in
     let range : IsSection section = (grind (arith, nat_tests), grind (arith, nat_tests)) in
     (range, within column row (and_parts (number == section) _ parts.1).1)
+
+-- a set in one section that contains each of its places or none lies in the section
+all_within : (is : Bool) (column row : ℕ) → all_if is column row ≡ true → IsPlace PLACE_DIGITS column row
+all_within is column row held =
+    place_of column row (sym (whole_is_place column row) ∙ (and_parts is _ held).1)
+
+-- a set of whole sections contains only places of a section
+pub sections_within : (held : List Bool) (section column row : ℕ)
+    → held_by_section all_if held section column row ≡ true
+    → IsSection section × IsPlace PLACE_DIGITS column row
+sections_within held section column row is = held_within all_if held section column row all_within is

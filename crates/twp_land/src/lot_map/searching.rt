@@ -6,7 +6,7 @@ ghost use Rattle.twp_grid.specs.Lands.{Meets};
 ghost use Rattle.twp_grid.specs.Spans.{in_rectangle, place_block, position_block};
 ghost use Rattle.twp_land.specs.LotMaps.{place_number};
 ghost use Rattle.twp_land.specs.steps.LotBytes.{column_count, first_column};
-ghost use Rattle.twp_land.specs.steps.Marked.{PLACES, marked, NoneLeft, IsNext};
+ghost use Rattle.twp_land.specs.steps.Marked.{PLACES, marked, NoneLeft, IsNextBlock};
 
 use crate::lot_map::bytes::{Columns, Extent, first_between, is_between};
 use crate::lot_map::{LotMap, NO_LAND, PLACES, PLACES_OF_HALF, PLACES_OF_POSITION, POSITIONS};
@@ -30,7 +30,7 @@ impl LotMap {
         requires { least ≤ most }
         ensures next { MatchOption result
             (NoneLeft (marked self.now.positions self.now.divided section least most) from)
-            (λ found. IsNext (marked self.now.positions self.now.divided section least most) from
+            (λ found. IsNextBlock (marked self.now.positions self.now.divided section least most) from
             found.block found.end) }
     {
         let at = self.passed(section, from, least, most);
@@ -55,7 +55,7 @@ impl LotMap {
         requires { least ≤ most }
         ensures next { MatchOption result
             (NoneLeft (marked self.now.positions self.now.divided section least most) from)
-            (λ found. IsNext (marked self.now.positions self.now.divided section least most) from
+            (λ found. IsNextBlock (marked self.now.positions self.now.divided section least most) from
             found.block found.end) }
     {
         let mut at = self.passed(section, from, least, most);
@@ -98,7 +98,7 @@ impl LotMap {
     /// The position that a lot of a section consists of, if it is known to be one position.
     #[inline(always)]
     pub(super) fn only_position(&self, section: Section, number: u8) -> Option<Block>
-        ensures { IfSome result (λ block. IsNext
+        ensures { IfSome result (λ block. IsNextBlock
             (marked self.now.positions self.now.divided section number number) 0 block PLACES) }
     {
         let index = first_between(&self.positions, section, 0, number, number);

@@ -1,14 +1,9 @@
 -- What each step of resolving does with an item: it is added to the land of the items before it, or
 -- its first fault is returned. No public contract cites this module; proofs/ResolvingFacts shows
 -- that the steps lead to the land of all items, or to the first fault.
-use Rattle.std.specs.Prelude.{◌≡◌, ◌==◌, ◌&&◌, nat_le, ℕ, ◌≤◌, Bool, List, drop}
-use Rattle.std.specs.Prelude.{Option, IsTrue}
+use Rattle.std.specs.Prelude.{◌≡◌, ◌==◌, ◌&&◌, nat_le, ℕ, ◌≤◌, Bool, Option, IsTrue}
 use Rattle.std.specs.Option.{option_map_or}
-use Rattle.twp_grid.specs.Blocks.{CanHalve, CanQuarter}
-use Rattle.twp_grid.specs.Cuts.{Cut, AreWithin, reached}
-use Rattle.twp_grid.specs.Cuts.Cut.{half, quarter}
 use Rattle.twp_grid.specs.Places.{is_place}
-use Rattle.twp_grid.specs.Spans.{Rectangle}
 use Rattle.twp_grid.specs.Townships.{Designation}
 use Rattle.twp_grid.specs.Winding.{IsSection}
 use Rattle.twp_grid.specs.Lands.{no_places, union, SharePlace}
@@ -16,16 +11,10 @@ use Rattle.twp_grid.specs.Lands.{Lotting}
 use Rattle.twp_grammar.specs.declared.item.Item.{Item}
 use Rattle.twp_grammar.specs.declared.item.Item.TheVariants as item
 use Rattle.twp_resolve.specs.declared.place_fault.PlaceFault.{PlaceFault}
-use Rattle.twp_grammar.specs.declared.item.Step.{Step}
-use Rattle.twp_grammar.specs.ItemPlaces.{cuts_of, is_lot_from, item_places}
+use Rattle.twp_grammar.specs.ItemPlaces.{is_lot_from, item_places}
 use Rattle.twp_grammar.specs.OnPlat.{LiesOnPlat}
 use Rattle.twp_resolve.specs.PlaceFaults.{HasFault, turn_of}
 use Rattle.twp_grammar.specs.ItemPlaces.{item_of}
-
--- the block is large enough for the cut
-abbrev pub CanCut : Rectangle → Cut → Type 0
-CanCut block (half side) = CanHalve block side
-CanCut block (quarter corner) = CanQuarter block
 
 -- the places of the sections from a first number to a last at which the plat has land
 abbrev pub sections_from : Lotting → ℕ → ℕ → ℕ → ℕ → ℕ → Bool
@@ -83,8 +72,3 @@ HasRoomFor has_room section (item.Heading number north_south range east_west at)
 HasRoomFor has_room section (item.Sections first last whole) =
     IsTrue whole → HaveRoom has_room first.value last.value
 HasRoomFor has_room section other = IsTrue (has_room section)
-
--- the block that steps reach, from the last to the one at an index
-pub record IsCutTo (g : ℕ) (steps : List Step) (index : ℕ) (block : Rectangle) : Type 0 where
-  pub within : AreWithin g (cuts_of (drop index steps))
-  pub block_is : block ≡ reached g (cuts_of (drop index steps))

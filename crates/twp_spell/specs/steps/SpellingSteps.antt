@@ -13,7 +13,7 @@ abbrev pub entries_text : List (List ℕ) → List ℕ
 entries_text entries = flat_map (λ entry. codes ", " ++ entry) entries
 
 -- the section's lots in the land were appended to a text
-pub record HasLots (plan : Lotting) (section : ℕ) (held : ℕ → ℕ → Bool) (old new : List ℕ) : Type 0 where
+pub record HasLotsText (plan : Lotting) (section : ℕ) (held : ℕ → ℕ → Bool) (old new : List ℕ) : Type 0 where
   pub lots : List ℕ
   pub are : AreListed (IsLotHeld plan section held) ◌<◌ lots
   pub text_is : new ≡ old ++ entries_text (lots_entry lots)

@@ -2,7 +2,7 @@
 use Rattle.std.proofs.Common.{◌-◌, ◌∙◌, arith}
 use Rattle.std.proofs.lemmas.Option.{slice_get-get_or}
 use Rattle.twp_grid.specs.Places.{PLACE_DIGITS}
-use Rattle.twp_resolve.proofs.ChainFacts.{cut_next}
+use Rattle.twp_grammar.proofs.ChainFacts.{cut_next}
 use Rattle.twp_resolve.proofs.chain.square_of.Goals as goal
 
 pub loop-index-preserved : goal.loop-index-preserved

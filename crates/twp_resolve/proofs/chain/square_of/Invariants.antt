@@ -1,6 +1,6 @@
 use Rattle.std.proofs.Common.{◌≤◌}
 use Rattle.twp_grid.specs.Places.{PLACE_DIGITS}
-use Rattle.twp_resolve.specs.steps.ResolvingSteps.{IsCutTo}
+use Rattle.twp_grammar.specs.steps.CutSteps.{IsCutTo}
 use Rattle.twp_resolve.proofs.chain.square_of.Given as goal
 
 -- the steps so far, from the last one

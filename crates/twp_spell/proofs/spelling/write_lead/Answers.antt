@@ -8,8 +8,8 @@ pub returns-clause-first : goal.returns-clause-first
 returns-clause-first c = λ none.
     let empty : c.is_empty.result ≡ true = c.is_empty.ensures
     ∙ ap (λ len. len == 0) (c.args.text.now.ok.0 ∙ ap (λ items. length items) none) in
-    first_lead c.append_to.result c.args.text.now.items c.append_to.new.text.items c.new-start.result
+    first_lead c.append_to.result c.args.text.now.items c.append_to.new.text.items c.begin.new.self
     c.push_number.new.self (heading_line c.args.township) (decimal c.args.section) none
-    (c.new-start.ensures.first empty)
-    (c.push_number.ensures.text ∙ ap (λ n. c.new-start.result ++ decimal n) c.number.ensures.value)
+    (c.begin.ensures.first empty)
+    (c.push_number.ensures.text ∙ ap (λ n. c.begin.new.self ++ decimal n) c.number.ensures.value)
     c.append_to.ensures
