@@ -10,6 +10,7 @@ pub mod TokenFacts
 pub mod StepFacts
 pub mod StateFacts
 pub mod CutPlaces
+pub mod ChainFacts
 pub mod Membership
 pub mod TreeFacts
 pub mod FinerItems

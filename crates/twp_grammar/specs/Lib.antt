@@ -8,3 +8,4 @@ pub mod Machine
 pub mod Laws
 pub mod OnPlat
 pub mod Cutting
+pub mod steps

@@ -3,6 +3,7 @@
 //! with their laws.
 #![tactic(auto)]
 
+mod chain;
 mod cutting;
 mod expected;
 mod item;
@@ -12,6 +13,7 @@ mod tokens;
 mod transition;
 mod word;
 
+pub use chain::chain_block;
 pub use cutting::{byte_at, digits, lexeme_at};
 pub use expected::Expected;
 pub use item::{Item, Numeral, Step, Steps};

@@ -9,7 +9,7 @@ use Rattle.twp_notes.specs.Records.{Fields, records_of, record_at, record_number
 use Rattle.twp_notes.specs.FieldNotes.{FIELDS, IsLineNumber, IsLineNamed, NamesLine, AreNotes}
 use Rattle.twp_notes.specs.FieldNotes.{nothing_returned}
 use Rattle.twp_notes.specs.NotesFaults.{HasNoRun, HasNoSection, NamesNoLine, HasNoLength, HasOnLine}
-use Rattle.twp_notes.specs.NotesFaults.{IsLineRepeated, HasFault, IsFrom, IsFirstFault, AnswersNotes}
+use Rattle.twp_notes.specs.NotesFaults.{IsLineRepeated, HasFault, IsFrom, IsFirstNotesFault, AnswersNotes}
 use Rattle.twp_notes.specs.NotesFaults.{refusal_of}
 use Rattle.twp_notes.specs.steps.Tables.{entry_of, AreEntries, IsLineTaken, IsLineNamedBy, AreTaken}
 use Rattle.twp_notes.specs.steps.Tables.{IsLeastMissing}
@@ -147,7 +147,7 @@ repeated_is bytes rows count line after within earlier names =
 
 -- the record that is not entered has the first fault
 pub first_of_next : (bytes : List ℕ) (rows : List Fields) (is : NotesFault) → AreAfter bytes rows
-    → IsLineRefusedNext rows is → IsFirstFault bytes is
+    → IsLineRefusedNext rows is → IsFirstNotesFault bytes is
 first_of_next bytes rows (fault.Columns at) after next =
     let (at_is, wrong) = next.not_taken in
     let good : IsGoodBefore (record_at rows next.count) 4 = record {
@@ -158,7 +158,7 @@ first_of_next bytes rows (fault.Columns at) after next =
       lengths = λ h. absurd (omega arith);
     } in
     let has = on_line (λ (f : Fields). length f ≢ FIELDS) bytes rows next.count after next.within wrong in
-    subst (λ n. IsFirstFault bytes (fault.Columns n)) (sym at_is) (record {
+    subst (λ n. IsFirstNotesFault bytes (fault.Columns n)) (sym at_is) (record {
       is = (omega arith, has.0.1, has.1);
       first = none_before bytes rows next.count 4 next.table after next.taken good (omega arith);
     })
@@ -171,7 +171,7 @@ first_of_next bytes rows (fault.Run at) after next =
       names = λ h. absurd (omega arith);
       lengths = λ h. absurd (omega arith);
     } in
-    subst (λ n. IsFirstFault bytes (fault.Run n)) (sym at_is) (record {
+    subst (λ n. IsFirstNotesFault bytes (fault.Run n)) (sym at_is) (record {
       is = on_line HasNoRun bytes rows next.count after next.within wrong;
       first = none_before bytes rows next.count 6 next.table after next.taken good (omega arith);
     })
@@ -184,7 +184,7 @@ first_of_next bytes rows (fault.Section at) after next =
       names = λ h. absurd (omega arith);
       lengths = λ h. absurd (omega arith);
     } in
-    subst (λ n. IsFirstFault bytes (fault.Section n)) (sym at_is) (record {
+    subst (λ n. IsFirstNotesFault bytes (fault.Section n)) (sym at_is) (record {
       is = on_line HasNoSection bytes rows next.count after next.within wrong;
       first = none_before bytes rows next.count 7 next.table after next.taken good (omega arith);
     })
@@ -197,7 +197,7 @@ first_of_next bytes rows (fault.NoLine at) after next =
       names = λ h. absurd (omega arith);
       lengths = λ h. absurd (omega arith);
     } in
-    subst (λ n. IsFirstFault bytes (fault.NoLine n)) (sym at_is) (record {
+    subst (λ n. IsFirstNotesFault bytes (fault.NoLine n)) (sym at_is) (record {
       is = on_line NamesNoLine bytes rows next.count after next.within wrong;
       first = none_before bytes rows next.count 8 next.table after next.taken good (omega arith);
     })
@@ -210,7 +210,7 @@ first_of_next bytes rows (fault.Length at) after next =
       names = λ h. named;
       lengths = λ h. absurd (omega arith);
     } in
-    subst (λ n. IsFirstFault bytes (fault.Length n)) (sym at_is) (record {
+    subst (λ n. IsFirstNotesFault bytes (fault.Length n)) (sym at_is) (record {
       is = on_line HasNoLength bytes rows next.count after next.within wrong;
       first = none_before bytes rows next.count 9 next.table after next.taken good (omega arith);
     })
@@ -225,7 +225,7 @@ first_of_next bytes rows (fault.Repeated at) after next =
     } in
     let has =
     on_line (λ (f : Fields). NamesLine f again.line) bytes rows next.count after next.within again.names in
-    subst (λ n. IsFirstFault bytes (fault.Repeated n)) (sym at_is) (record {
+    subst (λ n. IsFirstNotesFault bytes (fault.Repeated n)) (sym at_is) (record {
       is = (
         has.0,
         repeated_is bytes rows next.count again.line after next.within
@@ -237,7 +237,7 @@ first_of_next bytes rows _ after next = absurd next.not_taken
 
 -- the result if the records of lines were refused
 pub answer_refused : (bytes : List ℕ) (rows : List Fields) (is : NotesFault) → AreAfter bytes rows
-    → IsLineRefusedAfter rows is → IfSome (refusal_of is) (λ _. IsFirstFault bytes is)
+    → IsLineRefusedAfter rows is → IfSome (refusal_of is) (λ _. IsFirstNotesFault bytes is)
 answer_refused bytes rows fault.Memory after refused = tt
 answer_refused bytes rows fault.Read after refused = tt
 answer_refused bytes rows (fault.Columns at) after refused =
@@ -323,7 +323,7 @@ missing_first bytes rows table line after taken least fault.Memory has from = ab
 
 pub missing_is_first : (bytes : List ℕ) (rows : List Fields) (table : List (Option Returned)) (line : ℕ)
     → AreAfter bytes rows → AreTaken rows (length rows) table
-    → IsLeastMissing table line → IsFirstFault bytes (fault.Missing line)
+    → IsLeastMissing table line → IsFirstNotesFault bytes (fault.Missing line)
 missing_is_first bytes rows table line after taken least =
     let good : IsGoodBefore (record_at rows (length rows)) 4 = record {
       columns = λ h. absurd (omega arith);

@@ -16,7 +16,7 @@ use Rattle.twp_notes.specs.FieldNotes.{FieldNotes, FIELDS, nothing_returned, ret
 use Rattle.twp_grid.specs.Townships.{north_south_letter, east_west_letter}
 use Rattle.twp_notes.specs.FieldNotes.{IsTownshipRecord}
 use Rattle.twp_notes.specs.FieldNotes.{IsLineNumber, IsLineRecord, AreNotes}
-use Rattle.twp_notes.specs.NotesFaults.{HasFault, IsFirstFault, AnswersNotes, number_of, place_of}
+use Rattle.twp_notes.specs.NotesFaults.{HasFault, IsFirstNotesFault, AnswersNotes, number_of, place_of}
 use Rattle.twp_notes.specs.NotesFaults.{refusal_of}
 use Rattle.twp_notes.specs.Laws.{IsNotesAnswer, OneAnswer}
 use Rattle.twp_notes.specs.declared.fault.NotesFault.{NotesFault}
@@ -161,7 +161,8 @@ same_rank s p n s' p' n' (inr (inr a)) (inr (inl b)) = absurd (omega arith)
 same_rank s p n s' p' n' (inr (inr a)) (inr (inr b)) = (omega arith, omega arith)
 
 -- only one fault is the first
-pub one_first : (bytes : List ℕ) (a b : NotesFault) → IsFirstFault bytes a → IsFirstFault bytes b → a ≡ b
+pub one_first : (bytes : List ℕ) (a b : NotesFault) → IsFirstNotesFault bytes a → IsFirstNotesFault bytes b
+    → a ≡ b
 one_first bytes a b is-a is-b =
     let same = same_rank _ _ _ _ _ _ (is-a.first b is-b.is) (is-b.first a is-a.is) in
     sym (fault_back bytes a is-a.is) ∙ rw (same.0, same.1) refl ∙ fault_back bytes b is-b.is
@@ -172,7 +173,7 @@ if_some None P h some = cc some
 
 -- a numbered fault is the first
 is_first : (bytes : List ℕ) (is : NotesFault) → AnswersNotes bytes (Err is) → IsNotesAnswer (Err is)
-    → IsFirstFault bytes is
+    → IsFirstNotesFault bytes is
 is_first bytes is answers numbered = if_some (refusal_of is) _ answers numbered
 
 pub one_answer : OneAnswer

@@ -112,11 +112,11 @@ ComesFirst Has fault = (other : NotesFault) → Has other
     → IsFrom (stage_of fault) (place_of fault) (number_of fault) other
 
 -- the fault is present, and no fault that precedes it is
-pub record IsFirstFault (bytes : List ℕ) (fault : NotesFault) : Type 0 where
+pub record IsFirstNotesFault (bytes : List ℕ) (fault : NotesFault) : Type 0 where
   pub is : HasFault bytes fault
   pub first : ComesFirst (HasFault bytes) fault
 
 -- the notes in the bytes, or their first fault
 abbrev pub AnswersNotes : List ℕ → Result FieldNotes NotesFault → Type 0
 AnswersNotes bytes (Ok notes) = AreNotes bytes notes
-AnswersNotes bytes (Err fault) = IfSome (refusal_of fault) (λ _. IsFirstFault bytes fault)
+AnswersNotes bytes (Err fault) = IfSome (refusal_of fault) (λ _. IsFirstNotesFault bytes fault)

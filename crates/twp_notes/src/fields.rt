@@ -16,7 +16,7 @@ ghost use Rattle.twp_notes.specs.steps.LineFaults.{IsUnnamed};
 
 use crate::fault::NotesFault;
 use crate::parsing::Returned;
-use crate::reading::{field, is_text};
+use crate::reading::{field, is_exactly};
 use csv::ByteRecord;
 use twp_grid::{EastWest, Line, NorthSouth, Run, Section, Township};
 use twp_measure::Length;
@@ -30,15 +30,15 @@ pub fn is_heading(row: &ByteRecord) -> bool
     ensures { IsTrue result ↔ (fields_of row.now ≡ heading) }
 {
     if row.len() != FIELDS
-        || !is_text(field(row, 0), "line")
-        || !is_text(field(row, 1), "between")
+        || !is_exactly(field(row, 0), "line")
+        || !is_exactly(field(row, 1), "between")
     {
         return false;
     }
-    if !is_text(field(row, 2), "and") || !is_text(field(row, 3), "quarter") {
+    if !is_exactly(field(row, 2), "and") || !is_exactly(field(row, 3), "quarter") {
         return false;
     }
-    is_text(field(row, 4), "corner")
+    is_exactly(field(row, 4), "corner")
 }
 
 /// The township that a record designates.
@@ -46,7 +46,7 @@ pub fn township_of(row: &ByteRecord) -> Option<Township>
     requires { length (fields_of row.now) ≡ FIELDS }
     ensures { Finds result (IsTownshipRecord (fields_of row.now)) }
 {
-    if !is_text(field(row, 0), "T") {
+    if !is_exactly(field(row, 0), "T") {
         return None;
     }
     let number = short_number(field(row, 1))?;

@@ -15,5 +15,5 @@ pub use fault::NotesFault;
 pub use fields::{FIELDS, named_line, section_of, short_number, township_of};
 pub use notes::Notes;
 pub use parsing::Returned;
-pub use reading::{ReadFault, Records, field, is_text, read_up_to, read_whole};
+pub use reading::{ReadFault, Records, field, is_exactly, read_up_to, read_whole};
 pub use writing::{LineNames, names_of};

@@ -160,7 +160,7 @@ pub fn field(row: &ByteRecord, place: usize) -> &[u8]
 }
 
 /// Whether the bytes of a field are exactly this text.
-pub fn is_text(bytes: &[u8], text: &str) -> bool
+pub fn is_exactly(bytes: &[u8], text: &str) -> bool
     ensures { IsTrue result ↔ (bytes.now ≡ text.now) }
 {
     bytes == text.as_bytes()

@@ -14,7 +14,7 @@ use Rattle.twp_grid.specs.Lands.{no_places, Meets, LieWithin}
 use Rattle.twp_grid.specs.Lands.{HasWholeLots}
 use Rattle.twp_grid.specs.Lands.{STANDARD_LOTS}
 use Rattle.twp_land.proofs.LandRanges.{nothing_within}
-use Rattle.twp_plat.specs.Plats.{TownshipPlat, IsPlat}
+use Rattle.twp_plat.specs.Plats.{SurveyPlat, IsPlat}
 use Rattle.twp_plat.specs.LandAreas.{section_sum, township_sum}
 use Rattle.twp_plat.specs.steps.Bounds.{OF_POSITION, SECTION_PLACES_MOST, LOTS_MOST, SECTION_UNITS_MOST}
 use Rattle.twp_plat.specs.steps.Bounds.{REGULAR_UNITS, REGULAR_PLACE_UNITS}
@@ -66,12 +66,12 @@ sections_sum pieces places count =
     total count (λ before. section_sum PLACE_DIGITS (pieces (before + 1)) (places (before + 1)))
 
 -- the sum for a number of sections
-abbrev pub IsSumOf : Account → TownshipPlat → (ℕ → ℕ → ℕ → Bool) → ℕ → ℕ → Type 0
+abbrev pub IsSumOf : Account → SurveyPlat → (ℕ → ℕ → ℕ → Bool) → ℕ → ℕ → Type 0
 IsSumOf account plat places count units =
     (pieces : ℕ → ℕ → ℕ → ℕ) → AreUnitsBy account plat pieces
     → OF_POSITION * units ≡ sections_sum pieces places count
 
-pub sum-next : (account : Account) (plat : TownshipPlat) (places : ℕ → ℕ → ℕ → Bool)
+pub sum-next : (account : Account) (plat : SurveyPlat) (places : ℕ → ℕ → ℕ → Bool)
     (number section units more : ℕ)
     → 1 ≤ number → section ≡ number → IsSumOf account plat places (number - 1) units
     → ((pieces : ℕ → ℕ → ℕ → ℕ) → AreUnitsBy account plat pieces
@@ -116,7 +116,7 @@ sum-without pieces places count (suc more) none =
     next = omega arith
 
 -- the set contains no place before its first section
-pub sum-first : (account : Account) (plat : TownshipPlat) (places : ℕ → ℕ → ℕ → Bool) (first last : ℕ)
+pub sum-first : (account : Account) (plat : SurveyPlat) (places : ℕ → ℕ → ℕ → Bool) (first last : ℕ)
     → LieWithin places first last → IsSumOf account plat places (first - 1) 0
 sum-first account plat places first last within pieces are =
     let none = sum-without pieces places 0 (first - 1) (λ section above below held.
@@ -125,7 +125,7 @@ sum-first account plat places first last within pieces are =
     sym (sym (ap (sections_sum pieces places) all) ∙ none ∙ total-zero _)
 
 -- the set contains no place after its last section
-pub sum-last : (account : Account) (plat : TownshipPlat) (places : ℕ → ℕ → ℕ → Bool)
+pub sum-last : (account : Account) (plat : SurveyPlat) (places : ℕ → ℕ → ℕ → Bool)
     (first last number units : ℕ)
     → LieWithin places first last → 1 ≤ number → last < number → number ≤ 37
     → IsSumOf account plat places (number - 1) units → IsSumOf account plat places (37 - 1) units
@@ -136,7 +136,7 @@ sum-last account plat places first last number units within least after most so_
     so_far pieces are ∙ sym (sym (ap (sections_sum pieces places) all) ∙ none)
 
 -- the set is empty
-pub sum-none : (account : Account) (plat : TownshipPlat) (places : ℕ → ℕ → ℕ → Bool) → places ≡ no_places
+pub sum-none : (account : Account) (plat : SurveyPlat) (places : ℕ → ℕ → ℕ → Bool) → places ≡ no_places
     → IsSumOf account plat places (37 - 1) 0
 sum-none account plat places none = sum-first account plat places 37 36 (nothing_within places 37 36 none)
 
@@ -147,7 +147,7 @@ pub area_is : (units over : ℕ) (found : Option Fraction) (area : Fraction)
 area_is units over found area is there = (rw there at is).1
 
 -- the sum over all sections is the land's area
-pub land_area : (account : Account) (plat : TownshipPlat) (places : ℕ → ℕ → ℕ → Bool) (number units over : ℕ)
+pub land_area : (account : Account) (plat : SurveyPlat) (places : ℕ → ℕ → ℕ → Bool) (number units over : ℕ)
     (area : Fraction)
     → IsPlat plat → HasWholeLots STANDARD_LOTS places
     → over ≡ over_by account plat → number ≡ 37 → IsSumOf account plat places (number - 1) units

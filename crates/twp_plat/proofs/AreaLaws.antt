@@ -13,7 +13,7 @@ use Rattle.twp_grid.specs.Spans.{whole_block}
 use Rattle.twp_grid.proofs.TotalFacts.{total-ext, total-both}
 use Rattle.twp_grid.proofs.TilingFacts.{one_position}
 use Rattle.twp_grid.specs.Lands.{union}
-use Rattle.twp_plat.specs.Plats.{TownshipPlat}
+use Rattle.twp_plat.specs.Plats.{SurveyPlat}
 use Rattle.twp_plat.proofs.RatioFacts.{cancelled}
 use Rattle.twp_plat.specs.Pieces.{ArePieces}
 use Rattle.twp_plat.specs.LandAreas.{IsLandArea, places_of_position, piece_where_held}
@@ -62,7 +62,7 @@ township-both g f f' =
 
 -- a set has only one sum, whichever pieces are given
 pub one_sum : (g : ℕ) → POSITIONS_ACROSS ≤ places_across g
-    → (plat : TownshipPlat) (places : ℕ → ℕ → ℕ → Bool) (pieces pieces' : ℕ → ℕ → ℕ → ℕ)
+    → (plat : SurveyPlat) (places : ℕ → ℕ → ℕ → Bool) (pieces pieces' : ℕ → ℕ → ℕ → ℕ)
     → ArePieces plat pieces → ArePieces plat pieces'
     → township_sum g pieces places ≡ township_sum g pieces' places
 one_sum g fits plat places pieces pieces' are are' =
@@ -86,7 +86,7 @@ some_places g fits = square (places_to_position g) (quarter (places_across g) fi
 -- if a set lies within another one, its units are no more than the other's, and the rest of the
 -- other set has the remaining units
 pub rest_within : (g : ℕ) → POSITIONS_ACROSS ≤ places_across g
-    → (plat : TownshipPlat) (outer places : ℕ → ℕ → ℕ → Bool) (area whole : Fraction)
+    → (plat : SurveyPlat) (outer places : ℕ → ℕ → ℕ → Bool) (area whole : Fraction)
     → ((section column row : ℕ) → IsSection section → column < places_across g → row < places_across g
     → places section column row ≡ true → outer section column row ≡ true)
     → IsLandArea g plat places area → IsLandArea g plat outer whole
@@ -133,7 +133,7 @@ is_place_of g section column row range in_column in_row = grind (arith, nat_test
 -- the units of a set's places in the township are no more than the township's, and the other places
 -- have the remaining units
 pub rest_of_places : (g : ℕ) → POSITIONS_ACROSS ≤ places_across g
-    → (plat : TownshipPlat) (places : ℕ → ℕ → ℕ → Bool) (area whole : Fraction)
+    → (plat : SurveyPlat) (places : ℕ → ℕ → ℕ → Bool) (area whole : Fraction)
     → IsLandArea g plat places area → IsLandArea g plat (township_places g) whole
     → (area.units ≤ whole.units)
     × IsLandArea g plat

@@ -6,7 +6,7 @@ use Rattle.twp_measure.specs.Areas.{Fraction}
 use Rattle.twp_grid.specs.Winding.{IsSection}
 use Rattle.twp_grid.specs.Spans.{total, over_positions}
 use Rattle.twp_grid.proofs.TotalFacts.{total-next}
-use Rattle.twp_plat.specs.Plats.{TownshipPlat, IsPlat}
+use Rattle.twp_plat.specs.Plats.{SurveyPlat, IsPlat}
 use Rattle.twp_plat.specs.Pieces.{IsPieceArea, over_of}
 use Rattle.twp_plat.specs.Pieces.{ArePieces, IsSectionArea, IsTownshipArea}
 use Rattle.twp_plat.proofs.SectionPieces.{pieces_of, piece_at}
@@ -41,7 +41,7 @@ pub value_is : {A : Type 0} (found : Option A) (P : Type 0) (value x : A) → So
 value_is found P value x is there = (rw there at is).1
 
 -- a piece belongs to a section
-in_section : (plat : TownshipPlat) (section column row : ℕ) (area : Fraction)
+in_section : (plat : SurveyPlat) (section column row : ℕ) (area : Fraction)
     → IsPieceArea plat section column row area → IsSection section
 in_section plat section column row area is = elim is.are.sides.stands.winds [
   | inl even ↦ (
@@ -55,7 +55,7 @@ in_section plat section column row area is = elim is.are.sides.stands.winds [
 ]
 
 -- the units of a piece are those of the plat
-pub units_are : (plat : TownshipPlat) (section column row : ℕ) (area : Fraction) (pieces : ℕ → ℕ → ℕ → ℕ)
+pub units_are : (plat : SurveyPlat) (section column row : ℕ) (area : Fraction) (pieces : ℕ → ℕ → ℕ → ℕ)
     → IsPieceArea plat section column row area
     → area.over ≡ over_of plat → column < 4 → row < 4 → ArePieces plat pieces
     → area.units ≡ pieces section column row
@@ -64,7 +64,7 @@ units_are plat section column row area pieces is over in_column in_row are =
     (in_column, in_row) is over
 
 -- the sum over the positions is the section's area
-pub section_area : (plat : TownshipPlat) (section : ℕ) (area : Fraction) → IsPlat plat
+pub section_area : (plat : SurveyPlat) (section : ℕ) (area : Fraction) → IsPlat plat
     → area.over ≡ over_of plat
     → ((pieces : ℕ → ℕ → ℕ → ℕ) → ArePieces plat pieces → area.units ≡ over_positions (pieces section))
     → IsSectionArea plat section area
@@ -73,7 +73,7 @@ section_area plat section area is over units =
     record { pieces = has.pieces; are = has.are; over_is = over; sum_is = units has.pieces has.are }
 
 -- the sum over the sections is the township's area
-pub township_area : (plat : TownshipPlat) (number : ℕ) (area : Fraction) → IsPlat plat
+pub township_area : (plat : SurveyPlat) (number : ℕ) (area : Fraction) → IsPlat plat
     → area.over ≡ over_of plat → number ≡ 37
     → ((pieces : ℕ → ℕ → ℕ → ℕ) → ArePieces plat pieces
     → area.units ≡ total (number - 1) (λ before. over_positions (pieces (before + 1))))

@@ -9,7 +9,7 @@ use Rattle.twp_grid.specs.Lands.{union, intersection, difference}
 use Rattle.twp_grid.specs.Lands.{HasWholeLots}
 use Rattle.twp_grid.specs.Lands.{standard_lots}
 use Rattle.twp_land.proofs.CombinedLots.{combined_lots_are_whole}
-use Rattle.twp_plat.specs.Plats.{TownshipPlat}
+use Rattle.twp_plat.specs.Plats.{SurveyPlat}
 use Rattle.twp_plat.proofs.RatioFacts.{cancelled}
 use Rattle.twp_plat.specs.LandAreas.{places_of_position, piece_where_held, township_sum}
 use Rattle.twp_plat.specs.LandAreaLaws.{AreDisjoint, UnionAndIntersectionAdd, DifferenceAndIntersectionAdd}
@@ -139,7 +139,7 @@ apart_from_shared places more section column row = at (places section column row
     at false b is is' = cc is
 
 -- the plat area of what a set has without another
-abbrev rest_by : (g : ℕ) (plat : TownshipPlat) (places more : ℕ → ℕ → ℕ → Bool) (first : Fraction)
+abbrev rest_by : (g : ℕ) (plat : SurveyPlat) (places more : ℕ → ℕ → ℕ → Bool) (first : Fraction)
     → IsPlatArea g plat places first → Fraction
 rest_by g plat places more first is = record {
   units = sum_by (printed_units is.figures) (lots_held g (difference places more))
@@ -147,7 +147,7 @@ rest_by g plat places more first is = record {
   over = 1;
 }
 
-rest_is : (g : ℕ) (plat : TownshipPlat) (places more : ℕ → ℕ → ℕ → Bool) (first : Fraction)
+rest_is : (g : ℕ) (plat : SurveyPlat) (places more : ℕ → ℕ → ℕ → Bool) (first : Fraction)
     (is : IsPlatArea g plat places first)
     → IsPlatArea g plat (difference places more) (rest_by g plat places more first is)
 rest_is g plat places more first is = record {
@@ -160,7 +160,7 @@ rest_is g plat places more first is = record {
 }
 
 -- with any plat area of the rest
-shared_and_rest : (g : ℕ) (plat : TownshipPlat) (places more : ℕ → ℕ → ℕ → Bool) (first rest both : Fraction)
+shared_and_rest : (g : ℕ) (plat : SurveyPlat) (places more : ℕ → ℕ → ℕ → Bool) (first rest both : Fraction)
     → HasWholeLots (standard_lots g) places → HasWholeLots (standard_lots g) more
     → IsPlatArea g plat places first → IsPlatArea g plat (difference places more) rest
     → IsPlatArea g plat (intersection places more) both → rest.units + both.units ≡ first.units

@@ -8,7 +8,7 @@ use Rattle.twp_grid.specs.Lines.{IsLine}
 use Rattle.twp_notes.specs.FieldNotes.{FieldNotes, returned_of}
 use Rattle.twp_notes.specs.declared.parsing.Returned.{Returned}
 use Rattle.twp_plat.specs.Closing.{IsInLimits, last_quarter, CLOSING_LEAST, CLOSING_MOST}
-use Rattle.twp_plat.specs.PlatFaults.{place_of, HasLineFault, IsFirstFault}
+use Rattle.twp_plat.specs.PlatFaults.{place_of, HasLineFault, IsFirstPlatFault}
 use Rattle.twp_plat.specs.steps.LineFaults.{IsFirstLineFault, AnswersLine}
 use Rattle.twp_plat.specs.declared.fault.HalfMile.TheVariants as half
 use Rattle.twp_plat.specs.declared.fault.PlatFault.{PlatFault}
@@ -31,7 +31,7 @@ no_line_fault line returned (fault.ClosingLong at) is has =
 -- the first fault of a line is the first of all if the lines before it are within their limits
 pub first_here : (notes : FieldNotes) (index : ℕ) (fault : PlatFault) → IsLine index
     → ((line : ℕ) → line < index → IsInLimits line (returned_of notes line))
-    → IsFirstLineFault index (returned_of notes index) fault → IsFirstFault notes fault
+    → IsFirstLineFault index (returned_of notes index) fault → IsFirstPlatFault notes fault
 first_here notes index fault is_line before here = record {
   is = rw here.place (is_line, here.is);
   first = λ other has. rw here.place (elim (cases_lt index (place_of other)) [

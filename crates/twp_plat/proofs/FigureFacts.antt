@@ -2,12 +2,12 @@
 use Rattle.std.proofs.Common.{◌≡◌, ℕ, Some, subst, sym, ◌∙◌}
 use Rattle.twp_measure.proofs.RoundingFacts.{one_rounding}
 use Rattle.twp_grid.specs.Lots.{IsPosition, position_of_lot}
-use Rattle.twp_plat.specs.Plats.{TownshipPlat}
+use Rattle.twp_plat.specs.Plats.{SurveyPlat}
 use Rattle.twp_plat.specs.LotFigures.{IsLotFigure, IsFigureOfLot}
 use Rattle.twp_plat.proofs.OneAnswer.{one_area}
 
 -- a position has only one figure
-pub same_figure : (plat : TownshipPlat) (section column row h h' : ℕ) → IsPosition column row
+pub same_figure : (plat : SurveyPlat) (section column row h h' : ℕ) → IsPosition column row
     → IsLotFigure plat section column row h → IsLotFigure plat section column row h' → h ≡ h'
 same_figure plat section column row h h' inside is is' =
     let same : is.area ≡ is'.area =
@@ -16,7 +16,7 @@ same_figure plat section column row h h' inside is is' =
     one_rounding is'.area h h' (rw same at is.rounded) is'.rounded
 
 -- so does a lot, because it fills one position
-pub same_figure_of_lot : (plat : TownshipPlat) (section lot h h' : ℕ) (p : ℕ × ℕ) → IsPosition p.0 p.1
+pub same_figure_of_lot : (plat : SurveyPlat) (section lot h h' : ℕ) (p : ℕ × ℕ) → IsPosition p.0 p.1
     → position_of_lot section lot ≡ Some p → IsLotFigure plat section p.0 p.1 h
     → IsFigureOfLot plat section lot h' → h ≡ h'
 same_figure_of_lot plat section lot h h' p inside there is is' =

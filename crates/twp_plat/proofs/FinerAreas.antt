@@ -16,7 +16,7 @@ use Rattle.twp_grid.specs.FinerLands.{cut_in_four, finer_land}
 use Rattle.twp_grid.specs.Lands.{off_lots}
 use Rattle.twp_grid.specs.Lands.{standard_lots}
 use Rattle.twp_grid.proofs.FinerLands.{same_off_lots, count_of_section, count_of_position}
-use Rattle.twp_plat.specs.Plats.{TownshipPlat}
+use Rattle.twp_plat.specs.Plats.{SurveyPlat}
 use Rattle.twp_plat.proofs.RatioFacts.{cancelled}
 use Rattle.twp_plat.specs.LandAreas.{places_of_position, piece_where_held, section_sum, township_sum}
 use Rattle.twp_plat.specs.LandAreas.{IsLandArea}
@@ -61,7 +61,7 @@ township_of_four g pieces places fits =
     ∙ total-scale SECTION_COUNT 4 (λ before. section_sum g (pieces (before + 1)) (places (before + 1)))
 
 -- the exact area
-pub same_area : (g : ℕ) (plat : TownshipPlat) (places : ℕ → ℕ → ℕ → Bool) (area : Fraction)
+pub same_area : (g : ℕ) (plat : SurveyPlat) (places : ℕ → ℕ → ℕ → Bool) (area : Fraction)
     → POSITIONS_ACROSS ≤ places_across g
     → IsLandArea g plat places area ↔ IsLandArea (suc g) plat (finer_land places) area
 same_area g plat places area fits = (forth, back)
@@ -124,7 +124,7 @@ off_lots_of_four g places fits =
     (λ before. count_held (off_lots (standard_lots g) (before + 1) (places (before + 1))) (whole_block g))
 
 -- the plat area
-pub same_plat_area : (g share : ℕ) (plat : TownshipPlat) (places : ℕ → ℕ → ℕ → Bool) (area : Fraction)
+pub same_plat_area : (g share : ℕ) (plat : SurveyPlat) (places : ℕ → ℕ → ℕ → Bool) (area : Fraction)
     → POSITIONS_ACROSS ≤ places_across g → IsNominalShare (suc g) share
     → IsPlatArea g plat places area ↔ IsPlatArea (suc g) plat (finer_land places) area
 same_plat_area g share plat places area fits whole = (forth, back)

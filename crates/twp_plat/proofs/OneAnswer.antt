@@ -9,9 +9,9 @@ use Rattle.twp_notes.specs.FieldNotes.{FieldNotes, returned_of}
 use Rattle.twp_notes.specs.declared.parsing.Returned.{Returned}
 use Rattle.twp_plat.specs.Closing.{CLOSING_LEAST, CLOSING_MOST, last_quarter, IsInLimits}
 use Rattle.twp_plat.specs.Closing.{IsClosingQuarter}
-use Rattle.twp_plat.specs.Plats.{TownshipPlat, closing_quarter_of, IsPlat, IsPlatOf}
+use Rattle.twp_plat.specs.Plats.{SurveyPlat, closing_quarter_of, IsPlat, IsPlatOf}
 use Rattle.twp_plat.specs.Plats.{IsQuarterOnPlat}
-use Rattle.twp_plat.specs.PlatFaults.{place_of, half_of, HasLineFault, IsFrom, IsFirstFault}
+use Rattle.twp_plat.specs.PlatFaults.{place_of, half_of, HasLineFault, IsFrom, IsFirstPlatFault}
 use Rattle.twp_plat.specs.PlatFaults.{AnswersPlat}
 use Rattle.twp_plat.specs.Pieces.{piece, IsPieceArea}
 use Rattle.twp_plat.specs.declared.fault.HalfMile.TheVariants as half
@@ -32,10 +32,10 @@ one_closing line returned quarter quarter' (inr (regular, is)) (inl (closing, is
 one_closing line returned quarter quarter' (inr (regular, is)) (inr (regular', is')) = is ∙ sym is'
 
 -- the same notes make only one plat
-one_plat : (notes : FieldNotes) (plat plat' : TownshipPlat) → IsPlatOf notes plat → IsPlatOf notes plat'
+one_plat : (notes : FieldNotes) (plat plat' : SurveyPlat) → IsPlatOf notes plat → IsPlatOf notes plat'
     → plat ≡ plat'
 one_plat notes plat plat' is is' =
-    let make : Designation → List ℕ → TownshipPlat =
+    let make : Designation → List ℕ → SurveyPlat =
     λ township quarters. record { township = township; closing_quarters = quarters } in
     let quarters : plat.closing_quarters ≡ plat'.closing_quarters =
     same_number_lists plat.closing_quarters plat'.closing_quarters (is.lines ∙ sym is'.lines)
@@ -63,7 +63,7 @@ quarter_within line returned quarter is (inr (regular, quarter_is)) = record {
 }
 
 -- the plat of notes is a plat
-pub plat_of_notes : (notes : FieldNotes) (plat : TownshipPlat) → IsPlatOf notes plat → IsPlat plat
+pub plat_of_notes : (notes : FieldNotes) (plat : SurveyPlat) → IsPlatOf notes plat → IsPlat plat
 plat_of_notes notes plat is = record {
   lines = is.lines;
   within = λ line is_line.
@@ -119,7 +119,8 @@ same_spot f f' (inl ahead) (inr same) = absurd (omega (arith, same.0))
 same_spot f f' (inr same) (inl after) = absurd (omega (arith, same.0))
 same_spot f f' (inr same) (inr same') = (same.0, omega (arith, same.1, same'.1))
 
-one_first_fault : (notes : FieldNotes) (f f' : PlatFault) → IsFirstFault notes f → IsFirstFault notes f'
+one_first_fault : (notes : FieldNotes) (f f' : PlatFault) → IsFirstPlatFault notes f
+    → IsFirstPlatFault notes f'
     → f ≡ f'
 one_first_fault notes f f' is is' =
     let spot = same_spot f f' (is.first f' is'.is) (is'.first f is.is) in
@@ -127,13 +128,13 @@ one_first_fault notes f f' is is' =
     spot.1
 
 -- notes that make a plat have no fault
-no_fault : (notes : FieldNotes) (plat : TownshipPlat) (f : PlatFault) → IsPlatOf notes plat
-    → IsFirstFault notes f → ⊥
+no_fault : (notes : FieldNotes) (plat : SurveyPlat) (f : PlatFault) → IsPlatOf notes plat
+    → IsFirstPlatFault notes f → ⊥
 no_fault notes plat f is first =
     no_line_fault (place_of f) (returned_of notes (place_of f)) f (is.makes (place_of f) first.is.0)
     first.is.1
 
-pub one_answer : (notes : FieldNotes) (answer answer' : Result TownshipPlat PlatFault)
+pub one_answer : (notes : FieldNotes) (answer answer' : Result SurveyPlat PlatFault)
     → AnswersPlat notes answer → AnswersPlat notes answer' → answer ≡ answer'
 one_answer notes (Ok plat) (Ok plat') is is' = ap (λ p. Ok p) (one_plat notes plat plat' is is')
 one_answer notes (Ok plat) (Err f') is is' = absurd (no_fault notes plat f' is is')
@@ -141,7 +142,7 @@ one_answer notes (Err f) (Ok plat') is is' = absurd (no_fault notes plat' f is' 
 one_answer notes (Err f) (Err f') is is' = ap (λ e. Err e) (one_first_fault notes f f' is is')
 
 -- a position has only one area over a denominator
-pub one_area : (plat : TownshipPlat) (section column row : ℕ) (area area' : Fraction) → column < 4 → row < 4
+pub one_area : (plat : SurveyPlat) (section column row : ℕ) (area area' : Fraction) → column < 4 → row < 4
     → IsPieceArea plat section column row area → IsPieceArea plat section column row area'
     → area.over ≡ area'.over → area ≡ area'
 one_area plat section column row area area' in_column in_row is is' over =

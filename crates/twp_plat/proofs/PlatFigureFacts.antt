@@ -12,7 +12,7 @@ use Rattle.twp_grid.specs.Places.{PLACE_DIGITS}
 use Rattle.twp_grid.specs.Spans.{total, over_positions}
 use Rattle.twp_grid.proofs.LotFacts.{lots_match}
 use Rattle.twp_land.proofs.LotFacts.{fills}
-use Rattle.twp_plat.specs.Plats.{TownshipPlat, IsPlat, closing_quarter_of}
+use Rattle.twp_plat.specs.Plats.{SurveyPlat, IsPlat, closing_quarter_of}
 use Rattle.twp_plat.specs.Pieces.{over_of, line_length}
 use Rattle.twp_plat.proofs.SectionPieces.{pieces_of}
 use Rattle.twp_plat.specs.Pieces.{IsSectionArea, IsTownshipArea}
@@ -32,7 +32,7 @@ in_position section lot column row range is =
     (there.in_column, there.in_row)
 
 -- a lot has only one figure
-pub same_lot : (plat : TownshipPlat) (figures : PlatFigures) (section lot h : ℕ) → IsSection section
+pub same_lot : (plat : SurveyPlat) (figures : PlatFigures) (section lot h : ℕ) → IsSection section
     → AreFigures plat figures → IsFigureOfLot plat section lot h → h ≡ figures.lots section lot
 same_lot plat figures section lot h range are is =
     same_figure plat section is.column is.row h (figures.lots section lot)
@@ -40,7 +40,7 @@ same_lot plat figures section lot h range are is =
     (are.lots section lot is.column is.row range is.position_is)
 
 -- a section has only one figure
-pub same_section : (plat : TownshipPlat) (section h h' : ℕ) (area : Fraction) → IsSection section
+pub same_section : (plat : SurveyPlat) (section h h' : ℕ) (area : Fraction) → IsSection section
     → IsSectionArea plat section area → IsRounded area h
     → IsSectionFigure plat section h' → h ≡ h'
 same_section plat section h h' area range area_is rounded is =
@@ -51,7 +51,7 @@ same_section plat section h h' area range area_is rounded is =
     one_rounding is.area h h' (rw same at rounded) is.rounded
 
 -- the township has only one figure
-pub same_township : (plat : TownshipPlat) (h h' : ℕ) (area : Fraction) → IsTownshipArea plat area
+pub same_township : (plat : SurveyPlat) (h h' : ℕ) (area : Fraction) → IsTownshipArea plat area
     → IsRounded area h → IsTownshipFigure plat h' → h ≡ h'
 same_township plat h h' area area_is rounded is =
     let same : area ≡ is.area =
@@ -60,11 +60,11 @@ same_township plat h h' area area_is rounded is =
     one_rounding is.area h h' (rw same at rounded) is.rounded
 
 -- a number of units over the plat's denominator, rounded
-abbrev hundredths_of : TownshipPlat → ℕ → ℕ
+abbrev hundredths_of : SurveyPlat → ℕ → ℕ
 hundredths_of plat units = (2 * units + 100000 * over_of plat) / (2 * (100000 * over_of plat))
 
 -- each plat has figures
-pub figures_of : (plat : TownshipPlat) (area : Fraction) → IsTownshipArea plat area → 0 < over_of plat
+pub figures_of : (plat : SurveyPlat) (area : Fraction) → IsTownshipArea plat area → 0 < over_of plat
     → (figures : PlatFigures) × AreFigures plat figures
 figures_of plat area is some =
     let pieces : ℕ → ℕ → ℕ → ℕ = is.pieces in
@@ -101,7 +101,7 @@ figures_of plat area is some =
     )
 
 -- a plat's denominator is not 0
-over_some : (plat : TownshipPlat) → 0 < over_of plat
+over_some : (plat : SurveyPlat) → 0 < over_of plat
 unfolding over_of
 over_some plat = some (closing_quarter_of plat (west_run 0 5)) (closing_quarter_of plat (north_run 0 6))
   where
@@ -109,7 +109,7 @@ over_some plat = some (closing_quarter_of plat (west_run 0 5)) (closing_quarter_
     some n w =
         let least = mul-le 1 1 (4 * line_length n) (line_length w) (omega arith) (omega arith) in omega arith
 
-pub plat_figures : (plat : TownshipPlat) → IsPlat plat → (figures : PlatFigures) × AreFigures plat figures
+pub plat_figures : (plat : SurveyPlat) → IsPlat plat → (figures : PlatFigures) × AreFigures plat figures
 plat_figures plat is =
     let has = pieces_of plat is in
     let units : ℕ = total SECTION_COUNT (λ before. over_positions (has.pieces (before + 1))) in

@@ -19,7 +19,7 @@ use Rattle.twp_grid.specs.Lands.{union}
 use Rattle.twp_grid.specs.Lands.{HasWholeLots}
 use Rattle.twp_grid.specs.Lands.{standard_lots}
 use Rattle.twp_land.proofs.LotFacts.{fills}
-use Rattle.twp_plat.specs.Plats.{TownshipPlat, IsPlat}
+use Rattle.twp_plat.specs.Plats.{SurveyPlat, IsPlat}
 use Rattle.twp_plat.specs.Pieces.{over_of}
 use Rattle.twp_plat.specs.Pieces.{ArePieces}
 use Rattle.twp_plat.proofs.RatioFacts.{cancelled}
@@ -42,7 +42,7 @@ abbrev units_of : PlatFigures → ℕ → ℕ → ℕ
 units_of figures section number = HUNDREDTH_OF_AN_ACRE * figures.lots section number
 
 -- two sets of figures of a plat agree at each lot
-lot_alike : (plat : TownshipPlat) (figures figures' : PlatFigures) (section column row number : ℕ)
+lot_alike : (plat : SurveyPlat) (figures figures' : PlatFigures) (section column row number : ℕ)
     → AreFigures plat figures → AreFigures plat figures' → IsSection section
     → lot_at_position section column row ≡ Some number → figures.lots section number
     ≡ figures'.lots section number
@@ -81,7 +81,7 @@ table-ext f f' same =
     ∙ sym (over_table f')
 
 -- the printed units of the lots in the set have only one sum
-printed_alike : (g : ℕ) (plat : TownshipPlat) (places : ℕ → ℕ → ℕ → Bool) (figures figures' : PlatFigures)
+printed_alike : (g : ℕ) (plat : SurveyPlat) (places : ℕ → ℕ → ℕ → Bool) (figures figures' : PlatFigures)
     → AreFigures plat figures → AreFigures plat figures'
     → sum_by (printed_units figures) (lots_held g places)
     ≡ sum_by (printed_units figures') (lots_held g places)
@@ -127,7 +127,7 @@ one_plat_area g plat places area area' is is' =
     ap (λ u. make u area.over) units ∙ ap (make area'.units) over
 
 -- a plat area is a sum over places
-place_sum : (g : ℕ) (plat : TownshipPlat) (places : ℕ → ℕ → ℕ → Bool) (area : Fraction)
+place_sum : (g : ℕ) (plat : SurveyPlat) (places : ℕ → ℕ → ℕ → Bool) (area : Fraction)
     → HasWholeLots (standard_lots g) places → (is : IsPlatArea g plat places area)
     → places_of_position g * area.units
     ≡ township_sum g (position_units (units_of is.figures) 400000000) places
@@ -155,7 +155,7 @@ both_whole g places more whole whole' section number range = record {
       ) refl;
 }
 
-units_alike : (plat : TownshipPlat) (figures figures' : PlatFigures) (section column row : ℕ)
+units_alike : (plat : SurveyPlat) (figures figures' : PlatFigures) (section column row : ℕ)
     → AreFigures plat figures → AreFigures plat figures' → IsSection section
     → position_units (units_of figures) 400000000 section column row
     ≡ position_units (units_of figures') 400000000 section column row
@@ -261,7 +261,7 @@ of_figure : (h exact over : ℕ) → 2 * h * (100000 * over) ≤ 2 * exact + 100
     → 2 * exact < 2 * h * (100000 * over) + 100000 * over → IsNear over exact (100000 * h) 1
 of_figure h exact over least most = record { above = omega arith; below = omega arith }
 
-at_position : (plat : TownshipPlat) (pieces : ℕ → ℕ → ℕ → ℕ) (figures : PlatFigures)
+at_position : (plat : SurveyPlat) (pieces : ℕ → ℕ → ℕ → ℕ) (figures : PlatFigures)
     (section column row : ℕ) (found : Option ℕ) → IsPlat plat → ArePieces plat pieces
     → AreFigures plat figures
     → IsSection section → IsPosition column row → lot_at_position section column row ≡ found
@@ -292,7 +292,7 @@ ones (x ∷ xs) = let first = sum_by-cons (λ _. 1) x xs in omega (arith, first,
 
 -- both sums over places
 sums_near : (g : ℕ) → POSITIONS_ACROSS ≤ places_across g
-    → (plat : TownshipPlat) (places : ℕ → ℕ → ℕ → Bool) (pieces : ℕ → ℕ → ℕ → ℕ) (figures : PlatFigures)
+    → (plat : SurveyPlat) (places : ℕ → ℕ → ℕ → Bool) (pieces : ℕ → ℕ → ℕ → ℕ) (figures : PlatFigures)
     → IsPlat plat
     → ArePieces plat pieces → AreFigures plat figures
     → IsNear (over_of plat) (township_sum g pieces places)

@@ -15,7 +15,7 @@ use Rattle.twp_notes.specs.FieldNotes.{FieldNotes, nothing_returned}
 use Rattle.twp_notes.specs.NotesTexts.{AppendsNotes, IsNotesText}
 use Rattle.twp_notes.specs.declared.parsing.Returned.{Returned}
 use Rattle.twp_plat.specs.Closing.{IsInLimits, IsClosingQuarter, CLOSING_LEAST, CLOSING_MOST}
-use Rattle.twp_plat.specs.Plats.{TownshipPlat, IsPlat, IsPlatOf, IsQuarterOnPlat, closing_quarter_of}
+use Rattle.twp_plat.specs.Plats.{SurveyPlat, IsPlat, IsPlatOf, IsQuarterOnPlat, closing_quarter_of}
 use Rattle.twp_plat.specs.PlatNotes.{AreNotesFor, returned_with}
 
 -- ---- the text of a length
@@ -127,7 +127,7 @@ closing_is line quarter is_line is = elim (closes_or_not line is_line) [
   | inr regular ↦ inr (regular, is.regular regular)
 ]
 
-pub plat_of : (notes : FieldNotes) (plat : TownshipPlat) → IsPlat plat → AreNotesFor plat notes
+pub plat_of : (notes : FieldNotes) (plat : SurveyPlat) → IsPlat plat → AreNotesFor plat notes
     → IsPlatOf notes plat
 plat_of notes plat is are = record {
   makes = λ line is_line.

@@ -1,7 +1,7 @@
 -- The pieces of a plat's sections: whole units outside section 6, and everywhere parts of the
 -- plat's denominator.
 use Rattle.std.proofs.Common.{◌≡◌, ◌≢◌, ◌⊎◌, ℕ, ◌*◌, ◌<◌, pos, inl, inr, arith}
-use Rattle.twp_plat.specs.Plats.{TownshipPlat, IsPlat, ClosingQuarters, AreClosingQuarters}
+use Rattle.twp_plat.specs.Plats.{SurveyPlat, IsPlat, ClosingQuarters, AreClosingQuarters}
 use Rattle.twp_plat.specs.Pieces.{ratio, whole, IsSame}
 use Rattle.twp_plat.specs.Pieces.{piece, over_of}
 use Rattle.twp_plat.proofs.FormulaFacts.{piece_terms}
@@ -9,7 +9,7 @@ use Rattle.twp_plat.proofs.RatioFacts.{whole_in_parts}
 use Rattle.twp_plat.proofs.SideFacts.{regular_outside_six, over_is}
 use Rattle.twp_plat.proofs.WholeFacts.{whole_piece}
 
-pub piece_is_whole : (plat : TownshipPlat) (section column row : ℕ) (q : ClosingQuarters) → IsPlat plat
+pub piece_is_whole : (plat : SurveyPlat) (section column row : ℕ) (q : ClosingQuarters) → IsPlat plat
     → AreClosingQuarters plat section q → section ≢ 6
     → column < 4 → row < 4 → (units : ℕ) × IsSame (piece q column row) (whole units)
 piece_is_whole plat section column row q is are other in_column in_row =
@@ -18,7 +18,7 @@ piece_is_whole plat section column row q is are other in_column in_row =
 is_six : (section : ℕ) → (section ≡ 6) ⊎ (section ≢ 6)
 is_six section = grind arith
 
-pub piece_is_over : (plat : TownshipPlat) (section column row : ℕ) (q : ClosingQuarters) → IsPlat plat
+pub piece_is_over : (plat : SurveyPlat) (section column row : ℕ) (q : ClosingQuarters) → IsPlat plat
     → AreClosingQuarters plat section q
     → column < 4 → row < 4 → (units : ℕ) × IsSame (piece q column row) (ratio (pos units) (over_of plat))
 piece_is_over plat section column row q is are in_column in_row = elim (is_six section) [

@@ -8,7 +8,7 @@ use Rattle.twp_grid.specs.Lines.{north_run, west_run}
 use Rattle.twp_grid.specs.Lots.{lot_at_position}
 use Rattle.twp_grid.specs.steps.WesternSections.{is_western_number}
 use Rattle.twp_grid.proofs.LotFacts.{each, each_of_three, lot_at_is, lot_by_code}
-use Rattle.twp_plat.specs.Plats.{TownshipPlat, IsPlat, closing_quarter_of, ClosingQuarters}
+use Rattle.twp_plat.specs.Plats.{SurveyPlat, IsPlat, closing_quarter_of, ClosingQuarters}
 use Rattle.twp_plat.specs.Plats.{AreClosingQuarters}
 use Rattle.twp_plat.specs.Pieces.{ratio, whole, IsSame}
 use Rattle.twp_plat.specs.Pieces.{piece}
@@ -82,7 +82,7 @@ north_is_lot section column row range in_column in_row north last none =
     cc (rw (north, test) at code)
 
 -- the piece of a position that is not a lot
-pub piece_off_lots : (plat : TownshipPlat) (section column row : ℕ) (q : ClosingQuarters) → IsPlat plat
+pub piece_off_lots : (plat : SurveyPlat) (section column row : ℕ) (q : ClosingQuarters) → IsPlat plat
     → IsSection section → AreClosingQuarters plat section q
     → column < 4 → row < 4 → lot_at_position section column row ≡ None
     → IsSame (piece q column row) (whole 400000000)

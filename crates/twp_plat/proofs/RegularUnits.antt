@@ -2,7 +2,7 @@
 use Rattle.std.proofs.Common.{◌≡◌, ℕ, ◌*◌, None, ap, refl, sym, ◌∙◌}
 use Rattle.twp_grid.specs.Winding.{IsSection}
 use Rattle.twp_grid.specs.Lots.{IsPosition, lot_at_position}
-use Rattle.twp_plat.specs.Plats.{TownshipPlat, IsPlat}
+use Rattle.twp_plat.specs.Plats.{SurveyPlat, IsPlat}
 use Rattle.twp_plat.specs.Pieces.{piece, over_of}
 use Rattle.twp_plat.specs.Pieces.{ArePieces}
 use Rattle.twp_plat.proofs.FormulaFacts.{piece_terms}
@@ -14,7 +14,7 @@ use Rattle.twp_plat.proofs.SectionSums.{AreRegular}
 use Rattle.twp_plat.proofs.RegularFacts.{piece_off_lots}
 
 -- its piece, in parts of the plat's denominator
-pub regular_units : (plat : TownshipPlat) (pieces : ℕ → ℕ → ℕ → ℕ) (section column row : ℕ) → IsPlat plat
+pub regular_units : (plat : SurveyPlat) (pieces : ℕ → ℕ → ℕ → ℕ) (section column row : ℕ) → IsPlat plat
     → ArePieces plat pieces → IsSection section → IsPosition column row
     → lot_at_position section column row ≡ None → pieces section column row ≡ 400000000 * over_of plat
 regular_units plat pieces section column row is are range position none =
@@ -26,7 +26,7 @@ regular_units plat pieces section column row is are range position none =
     (sym area.area_is)
 
 -- its units by an account
-pub regular_by : (account : Account) (plat : TownshipPlat) (units : ℕ → ℕ → ℕ → ℕ) (section : ℕ) → IsPlat plat
+pub regular_by : (account : Account) (plat : SurveyPlat) (units : ℕ → ℕ → ℕ → ℕ) (section : ℕ) → IsPlat plat
     → AreUnitsBy account plat units → IsSection section
     → AreRegular (over_by account plat) section (units section)
 regular_by Exact plat units section is are range column row position none =

@@ -7,7 +7,7 @@ use Rattle.twp_grid.specs.Winding.{IsSection, LiesAt}
 use Rattle.twp_grid.specs.Lines.{north_run, west_run}
 use Rattle.twp_grid.specs.Lots.{IsPosition}
 use Rattle.twp_grid.proofs.WindingFacts.{parity, stands_even, stands_odd}
-use Rattle.twp_plat.specs.Plats.{TownshipPlat, IsPlat, closing_quarter_of, ClosingQuarters}
+use Rattle.twp_plat.specs.Plats.{SurveyPlat, IsPlat, closing_quarter_of, ClosingQuarters}
 use Rattle.twp_plat.specs.Plats.{AreClosingQuarters}
 use Rattle.twp_plat.specs.Pieces.{IsPieceArea, over_of}
 use Rattle.twp_plat.specs.Pieces.{ArePieces}
@@ -32,11 +32,11 @@ standing section range = elim (parity ((section - 1) / 6)) [
 ]
 
 -- a section's closing quarters
-record Quarters (plat : TownshipPlat) (section : ℕ) : Type 0 where
+record Quarters (plat : SurveyPlat) (section : ℕ) : Type 0 where
   quarters : ClosingQuarters
   are : AreClosingQuarters plat section quarters
 
-quarters_of : (plat : TownshipPlat) (section : ℕ) → IsSection section → Quarters plat section
+quarters_of : (plat : SurveyPlat) (section : ℕ) → IsSection section → Quarters plat section
 quarters_of plat section range =
     let at = standing section range in
     let line : ℕ → ℕ = closing_quarter_of plat in
@@ -80,14 +80,14 @@ in_township section column row = elim (cases_lt 0 section) [
 ]
 
 -- the units of a position's piece over the plat's denominator
-unfoldable units_of : (plat : TownshipPlat) → IsPlat plat → (section column row : ℕ)
+unfoldable units_of : (plat : SurveyPlat) → IsPlat plat → (section column row : ℕ)
     → InTownship section column row ⊎ (InTownship section column row → ⊥) → ℕ
 units_of plat is section column row (inl (range, position)) =
     let q = quarters_of plat section range in
     (piece_is_over plat section column row q.quarters is q.are position.0 position.1).0
 units_of plat is section column row (inr outside) = 0
 
-units_are : (plat : TownshipPlat) (is : IsPlat plat) (section column row : ℕ)
+units_are : (plat : SurveyPlat) (is : IsPlat plat) (section column row : ℕ)
     (at : InTownship section column row ⊎ (InTownship section column row → ⊥))
     → IsSection section → IsPosition column row → IsPieceArea plat section column row (record {
       units = units_of plat is section column row at;
@@ -104,11 +104,11 @@ units_are plat is section column row (inl (range, position)) range' position' =
 units_are plat is section column row (inr outside) range' position' = absurd (outside (range', position'))
 
 -- the pieces of a plat
-pub record HasPieces (plat : TownshipPlat) : Type 0 where
+pub record HasPieces (plat : SurveyPlat) : Type 0 where
   pub pieces : ℕ → ℕ → ℕ → ℕ
   pub are : ArePieces plat pieces
 
-pub pieces_of : (plat : TownshipPlat) → IsPlat plat → HasPieces plat
+pub pieces_of : (plat : SurveyPlat) → IsPlat plat → HasPieces plat
 pieces_of plat is = record {
   pieces = λ section column row. units_of plat is section column row (in_township section column row);
   are = record {
@@ -118,7 +118,7 @@ pieces_of plat is = record {
 }
 
 -- a plat has only one set of pieces
-pub same_pieces : (plat : TownshipPlat) (pieces pieces' : ℕ → ℕ → ℕ → ℕ) → ArePieces plat pieces
+pub same_pieces : (plat : SurveyPlat) (pieces pieces' : ℕ → ℕ → ℕ → ℕ) → ArePieces plat pieces
     → ArePieces plat pieces'
     → (section column row : ℕ) → IsSection section → IsPosition column row
     → pieces section column row ≡ pieces' section column row
@@ -130,7 +130,7 @@ same_pieces plat pieces pieces' are are' section column row range position =
     (are'.is_piece section column row range position) refl)
 
 -- the piece that a function of the plat gives
-pub piece_at : (plat : TownshipPlat) (pieces : ℕ → ℕ → ℕ → ℕ) (section column row : ℕ) (area : Fraction)
+pub piece_at : (plat : SurveyPlat) (pieces : ℕ → ℕ → ℕ → ℕ) (section column row : ℕ) (area : Fraction)
     → ArePieces plat pieces → IsSection section → IsPosition column row
     → IsPieceArea plat section column row area → area.over ≡ over_of plat
     → area.units ≡ pieces section column row

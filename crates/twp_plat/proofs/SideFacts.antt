@@ -7,7 +7,7 @@ use Rattle.twp_grid.specs.Winding.{LiesAt}
 use Rattle.twp_grid.proofs.WindingFacts.{same_standing}
 use Rattle.twp_grid.specs.Lines.{IsLine, IsClosing, AreSides, north_run, west_run}
 use Rattle.twp_plat.specs.Closing.{QUARTER_MILE}
-use Rattle.twp_plat.specs.Plats.{TownshipPlat, IsPlat, closing_quarter_of, ClosingQuarters}
+use Rattle.twp_plat.specs.Plats.{SurveyPlat, IsPlat, closing_quarter_of, ClosingQuarters}
 use Rattle.twp_plat.specs.Plats.{AreClosingQuarters}
 use Rattle.twp_plat.specs.steps.SideLimits.{HaveRegularLines}
 use Rattle.twp_plat.specs.Pieces.{line_length, over_of}
@@ -50,12 +50,12 @@ pub corner_is_six : (section row column : ℕ) → LiesAt section row column →
 corner_is_six section row column stands top west = omega arith
 
 -- the closing quarter of a line other than a closing line is regular
-pub regular_quarter : (plat : TownshipPlat) (line : ℕ) → IsPlat plat → line < 84 → ¬ IsClosing line
+pub regular_quarter : (plat : SurveyPlat) (line : ℕ) → IsPlat plat → line < 84 → ¬ IsClosing line
     → closing_quarter_of plat line ≡ QUARTER_MILE
 regular_quarter plat line is is_line regular = (is.within line is_line).regular regular
 
 -- Outside section 6, a section's north and south lines are regular, or its east and west lines are.
-pub regular_outside_six : (plat : TownshipPlat) (section : ℕ) (q : ClosingQuarters) → IsPlat plat
+pub regular_outside_six : (plat : SurveyPlat) (section : ℕ) (q : ClosingQuarters) → IsPlat plat
     → AreClosingQuarters plat section q → section ≢ 6 → HaveRegularLines q
 regular_outside_six plat section q is are other =
     let lines = lines_of section are.east_line are.west_line are.north_line are.south_line are.sides in
@@ -87,7 +87,7 @@ regular_outside_six plat section q is are other =
     ]
 
 -- a section of a plat has only one closing quarter on each side
-pub one_quarters : (plat : TownshipPlat) (section : ℕ) (q q' : ClosingQuarters)
+pub one_quarters : (plat : SurveyPlat) (section : ℕ) (q q' : ClosingQuarters)
     → AreClosingQuarters plat section q → AreClosingQuarters plat section q' → q ≡ q'
 one_quarters plat section q q' are are' =
     let lines = lines_of section are.east_line are.west_line are.north_line are.south_line are.sides in
@@ -110,7 +110,7 @@ one_quarters plat section q q' are are' =
     ∙ ap (λ n. four q'.east q'.west n q.south) by_north ∙ ap (λ s. four q'.east q'.west q'.north s) by_south
 
 -- the denominator of a plat, by the closing quarters of section 6
-pub over_is : (plat : TownshipPlat) (q : ClosingQuarters) → AreClosingQuarters plat 6 q
+pub over_is : (plat : SurveyPlat) (q : ClosingQuarters) → AreClosingQuarters plat 6 q
     → over_of plat ≡ 4 * line_length q.north * line_length q.west
 unfolding over_of
 over_is plat q are =

@@ -6,7 +6,7 @@ use Rattle.twp_grid.specs.Winding.{IsSection}
 use Rattle.twp_grid.specs.Places.{PLACE_DIGITS, places_across, is_place}
 use Rattle.twp_grid.specs.Lands.{union, intersection, difference}
 use Rattle.twp_land.specs.Storage.{is_section}
-use Rattle.twp_plat.specs.Plats.{TownshipPlat}
+use Rattle.twp_plat.specs.Plats.{SurveyPlat}
 use Rattle.twp_plat.specs.Pieces.{IsSectionArea, IsTownshipArea}
 use Rattle.twp_plat.specs.LandAreas.{IsLandArea, township_sum}
 
@@ -17,7 +17,7 @@ AreDisjoint places more = (section column row : ℕ)
 
 -- a set of places has only one area
 abbrev pub OneLandArea : Type 0
-OneLandArea = (g : ℕ) → POSITIONS_ACROSS ≤ places_across g → (plat : TownshipPlat)
+OneLandArea = (g : ℕ) → POSITIONS_ACROSS ≤ places_across g → (plat : SurveyPlat)
     (places : ℕ → ℕ → ℕ → Bool) (area area' : Fraction)
     → IsLandArea g plat places area → IsLandArea g plat places area' → area ≡ area'
 
@@ -32,7 +32,7 @@ DisjointSumsAdd = (g : ℕ) (pieces : ℕ → ℕ → ℕ → ℕ) (places more 
 -- the area of two disjoint sets together is the sum of their areas, if both are whole numbers of
 -- units
 abbrev pub DisjointAreasAdd : Type 0
-DisjointAreasAdd = (g : ℕ) → POSITIONS_ACROSS ≤ places_across g → (plat : TownshipPlat)
+DisjointAreasAdd = (g : ℕ) → POSITIONS_ACROSS ≤ places_across g → (plat : SurveyPlat)
     (places more : ℕ → ℕ → ℕ → Bool) (area other : Fraction) → AreDisjoint places more
     → IsLandArea g plat places area → IsLandArea g plat more other
     → IsLandArea g plat (union places more)
@@ -41,7 +41,7 @@ DisjointAreasAdd = (g : ℕ) → POSITIONS_ACROSS ≤ places_across g → (plat 
 -- The area of the union of two sets and that of their intersection add up to the areas of the two,
 -- if all are whole numbers of units. On one plat, all areas have the same denominator.
 abbrev pub UnionAndIntersectionAdd : Type 0
-UnionAndIntersectionAdd = (g : ℕ) → POSITIONS_ACROSS ≤ places_across g → (plat : TownshipPlat)
+UnionAndIntersectionAdd = (g : ℕ) → POSITIONS_ACROSS ≤ places_across g → (plat : SurveyPlat)
     (places more : ℕ → ℕ → ℕ → Bool) (first second either both : Fraction)
     → IsLandArea g plat places first → IsLandArea g plat more second
     → IsLandArea g plat (union places more) either
@@ -52,7 +52,7 @@ UnionAndIntersectionAdd = (g : ℕ) → POSITIONS_ACROSS ≤ places_across g →
 -- area of the first
 abbrev pub DifferenceAndIntersectionAdd : Type 0
 DifferenceAndIntersectionAdd = (g : ℕ) → POSITIONS_ACROSS ≤ places_across g
-    → (plat : TownshipPlat) (places more : ℕ → ℕ → ℕ → Bool) (first rest both : Fraction)
+    → (plat : SurveyPlat) (places more : ℕ → ℕ → ℕ → Bool) (first rest both : Fraction)
     → IsLandArea g plat places first → IsLandArea g plat (difference places more) rest
     → IsLandArea g plat (intersection places more) both
     → rest.units + both.units ≡ first.units
@@ -63,7 +63,7 @@ section_places g section other column row = (section == other) && is_place g col
 
 -- the area of a section on the plat is that of its land
 abbrev pub SectionAreaIsOfLand : Type 0
-SectionAreaIsOfLand = (plat : TownshipPlat) (section : ℕ) (area : Fraction) → IsSection section
+SectionAreaIsOfLand = (plat : SurveyPlat) (section : ℕ) (area : Fraction) → IsSection section
     → IsSectionArea plat section area
     → IsLandArea PLACE_DIGITS plat (section_places PLACE_DIGITS section) area
 
@@ -73,5 +73,5 @@ township_places g section column row = is_section section && is_place g column r
 
 -- the area of the township on the plat is that of its land
 abbrev pub TownshipAreaIsOfLand : Type 0
-TownshipAreaIsOfLand = (plat : TownshipPlat) (area : Fraction) → IsTownshipArea plat area
+TownshipAreaIsOfLand = (plat : SurveyPlat) (area : Fraction) → IsTownshipArea plat area
     → IsLandArea PLACE_DIGITS plat (township_places PLACE_DIGITS) area

@@ -7,7 +7,7 @@ use Rattle.twp_grid.specs.Winding.{SECTION_COUNT}
 use Rattle.twp_grid.specs.Places.{places_to_position, position_along}
 use Rattle.twp_grid.specs.Spans.{whole_block}
 use Rattle.twp_grid.specs.Spans.{total, total_over}
-use Rattle.twp_plat.specs.Plats.{TownshipPlat}
+use Rattle.twp_plat.specs.Plats.{SurveyPlat}
 use Rattle.twp_plat.specs.Pieces.{over_of}
 use Rattle.twp_plat.specs.Pieces.{ArePieces}
 
@@ -30,7 +30,7 @@ township_sum g pieces places =
     total SECTION_COUNT (λ before. section_sum g (pieces (before + 1)) (places (before + 1)))
 
 -- the area of a set of places: the sum of their pieces, divided without remainder by a position's places
-pub record IsLandArea (g : ℕ) (plat : TownshipPlat) (places : ℕ → ℕ → ℕ → Bool)
+pub record IsLandArea (g : ℕ) (plat : SurveyPlat) (places : ℕ → ℕ → ℕ → Bool)
     (area : Fraction) : Type 0 where
   pub pieces : ℕ → ℕ → ℕ → ℕ
   pub are : ArePieces plat pieces

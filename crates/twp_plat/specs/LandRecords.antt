@@ -64,10 +64,10 @@ pub record IsReturnedFor (records : List Fields) (section lot hundredths : ℕ) 
   pub is_for : IsForLot (record_numbered records number) section lot
   pub returns : IsAcresText (field (record_numbered records number) 2) hundredths
 
--- The records say this: a place is in a lot exactly if it is in a part of the lot's record, and the plat has
--- no land at a place exactly if it is in a part of a record without a lot. A lot's figure is that of its
--- record, and 0 if there is none.
-pub record ArePlatted (records : List Fields) (layout : Layout) (figure : ℕ → ℕ → ℕ) : Type 0 where
+-- The records lay out these lots: a place is in a lot exactly if it is in a part of the lot's record, and
+-- the plat has no land at a place exactly if it is in a part of a record without a lot. A lot's figure is
+-- that of its record, and 0 if there is none.
+pub record LayOutLots (records : List Fields) (layout : Layout) (figure : ℕ → ℕ → ℕ) : Type 0 where
   pub lots : (section lot column row : ℕ) → IsSection section
       → ((layout.lot_of section column row ≡ Some lot) ↔ IsLotAt records section lot column row)
   pub no_land : (section column row : ℕ) → IsSection section

@@ -5,7 +5,7 @@ use Rattle.twp_grid.specs.Winding.{IsSection}
 use Rattle.twp_grid.specs.Lots.{position_of_lot}
 use Rattle.twp_grid.specs.Lands.{Lotting, HasWholeLots, union, intersection, difference}
 use Rattle.twp_grid.specs.Lands.{standard_lots}
-use Rattle.twp_plat.specs.Plats.{TownshipPlat}
+use Rattle.twp_plat.specs.Plats.{SurveyPlat}
 use Rattle.twp_plat.specs.PlatFigures.{PlatFigures, AreFigures}
 use Rattle.twp_plat.specs.PlatAccounts.{IsPlatArea}
 use Rattle.twp_plat.specs.LotAreas.{IsLotArea}
@@ -23,7 +23,7 @@ HasFiguresOf figure figures = (section number column row : ℕ) → IsSection se
 
 -- by such figures, the area of a set of places by the standard lots is its plat area
 abbrev pub LotAreaIsPlatArea : Type 0
-LotAreaIsPlatArea = (g : ℕ) (plat : TownshipPlat) (figures : PlatFigures) (figure : ℕ → ℕ → ℕ)
+LotAreaIsPlatArea = (g : ℕ) (plat : SurveyPlat) (figures : PlatFigures) (figure : ℕ → ℕ → ℕ)
     (places : ℕ → ℕ → ℕ → Bool) (area : Fraction)
     → AreFigures plat figures → HasFiguresOf figure figures
     → IsLotArea (standard_lots g) figure places area → IsPlatArea g plat places area

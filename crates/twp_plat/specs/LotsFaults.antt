@@ -13,7 +13,7 @@ use Rattle.twp_plat.specs.LotRecords.{LOTS_TEXT_MOST, LOT_FIELDS, lots_heading, 
 use Rattle.twp_plat.specs.LotRecords.{NamesLot, IsRowNumber}
 use Rattle.twp_plat.specs.LandRecords.{land_heading}
 use Rattle.twp_plat.specs.LandFaults.{HasLandFault}
-use Rattle.twp_plat.specs.LotTexts.{AreLots}
+use Rattle.twp_plat.specs.LotTexts.{IsLotTable}
 use Rattle.twp_plat.specs.declared.lots.fault.LotsFault.{LotsFault}
 use Rattle.twp_plat.specs.declared.lots.fault.LotsFault.TheVariants as fault
 
@@ -117,12 +117,12 @@ IsFrom stage place number fault =
     ⊎ ((stage ≡ stage_of fault) × (place ≡ place_of fault) × (number ≤ number_of fault))
 
 -- the fault is present, and no fault that precedes it is
-pub record IsFirstFault (bytes : List ℕ) (fault : LotsFault) : Type 0 where
+pub record IsFirstLotsFault (bytes : List ℕ) (fault : LotsFault) : Type 0 where
   pub is : HasFault bytes fault
   pub first : (other : LotsFault) → HasFault bytes other
       → IsFrom (stage_of fault) (place_of fault) (number_of fault) other
 
 -- the lot table in the bytes, or their first fault
 abbrev pub AnswersLots : List ℕ → Result LotTable LotsFault → Type 0
-AnswersLots bytes (Ok table) = AreLots bytes table
-AnswersLots bytes (Err fault) = IfSome (refusal_of fault) (λ _. IsFirstFault bytes fault)
+AnswersLots bytes (Ok table) = IsLotTable bytes table
+AnswersLots bytes (Err fault) = IfSome (refusal_of fault) (λ _. IsFirstLotsFault bytes fault)

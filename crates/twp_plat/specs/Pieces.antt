@@ -9,7 +9,7 @@ use Rattle.twp_measure.specs.Areas.{Fraction}
 use Rattle.twp_grid.specs.Winding.{SECTIONS_ACROSS, WESTERN_COLUMN, SECTION_COUNT, IsSection}
 use Rattle.twp_grid.specs.Lines.{north_run, west_run}
 use Rattle.twp_plat.specs.Closing.{QUARTER_MILE, CLOSING_MOST}
-use Rattle.twp_plat.specs.Plats.{TownshipPlat, closing_quarter_of, ClosingQuarters, AreClosingQuarters}
+use Rattle.twp_plat.specs.Plats.{SurveyPlat, closing_quarter_of, ClosingQuarters, AreClosingQuarters}
 use Rattle.twp_grid.specs.Lots.{IsPosition}
 use Rattle.twp_grid.specs.Spans.{total, over_positions}
 
@@ -88,7 +88,7 @@ unfoldable pub piece : ClosingQuarters → ℕ → ℕ → Ratio
 piece q column row = times (mean_width q column row) (mean_height q column row)
 
 -- the area of a section's position on a plat, over any denominator
-pub record IsPieceArea (plat : TownshipPlat) (section column row : ℕ) (area : Fraction) : Type 0 where
+pub record IsPieceArea (plat : SurveyPlat) (section column row : ℕ) (area : Fraction) : Type 0 where
   pub quarters : ClosingQuarters
   pub are : AreClosingQuarters plat section quarters
   pub area_is : IsSame (ratio (pos area.units) area.over) (piece quarters column row)
@@ -99,7 +99,7 @@ abbrev pub divisor_of : ClosingQuarters → ℕ
 divisor_of q = 4 * line_length q.north * line_length q.west
 
 -- the denominator of all areas is section 6's, which has the westernmost lines of the first tier and row
-unfoldable pub over_of : TownshipPlat → ℕ
+unfoldable pub over_of : SurveyPlat → ℕ
 over_of plat = 4 * line_length (closing_quarter_of plat (west_run 0 WESTERN_COLUMN))
     * line_length (closing_quarter_of plat (north_run 0 SECTIONS_ACROSS))
 
@@ -108,20 +108,20 @@ abbrev pub OVER_MOST : ℕ
 OVER_MOST = 4 * line_length CLOSING_MOST * line_length CLOSING_MOST
 
 -- the units of each section's pieces over the plat's denominator, by the position's column and row
-pub record ArePieces (plat : TownshipPlat) (pieces : ℕ → ℕ → ℕ → ℕ) : Type 0 where
+pub record ArePieces (plat : SurveyPlat) (pieces : ℕ → ℕ → ℕ → ℕ) : Type 0 where
   pub is_piece : (section column row : ℕ) → IsSection section → IsPosition column row
       → IsPieceArea plat section column row
       (record { units = pieces section column row; over = over_of plat })
 
 -- the area of a section: the sum of its pieces, over the plat's denominator
-pub record IsSectionArea (plat : TownshipPlat) (section : ℕ) (area : Fraction) : Type 0 where
+pub record IsSectionArea (plat : SurveyPlat) (section : ℕ) (area : Fraction) : Type 0 where
   pub pieces : ℕ → ℕ → ℕ → ℕ
   pub are : ArePieces plat pieces
   pub over_is : area.over ≡ over_of plat
   pub sum_is : area.units ≡ over_positions (pieces section)
 
 -- the area of the township: the sum of its sections' areas, over the plat's denominator
-pub record IsTownshipArea (plat : TownshipPlat) (area : Fraction) : Type 0 where
+pub record IsTownshipArea (plat : SurveyPlat) (area : Fraction) : Type 0 where
   pub pieces : ℕ → ℕ → ℕ → ℕ
   pub are : ArePieces plat pieces
   pub over_is : area.over ≡ over_of plat

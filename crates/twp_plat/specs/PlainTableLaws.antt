@@ -29,7 +29,7 @@ pub data IsAfterLine (text : List ℕ) : Type 0 where
       → IsAfterLine text
 
 -- one of the lines of a text
-pub record IsLineOf (text line : List ℕ) : Type 0 where
+pub record IsLineOfText (text line : List ℕ) : Type 0 where
   pub before : List ℕ
   pub after : List ℕ
   pub text_is : text ≡ before ++ line ++ after
@@ -40,7 +40,7 @@ pub record IsLineOf (text line : List ℕ) : Type 0 where
 -- a text whose lines are all plain rows is its own plain table
 abbrev pub PlainTablesStay : Type 0
 PlainTablesStay = (text : List ℕ)
-    → ((line : List ℕ) → IsLineOf (after_byte_order_mark text) line → IsPlainRow line)
+    → ((line : List ℕ) → IsLineOfText (after_byte_order_mark text) line → IsPlainRow line)
     → IsPlainTable text text
 
 -- the plain table of a plain table is that plain table

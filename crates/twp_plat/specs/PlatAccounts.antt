@@ -10,7 +10,7 @@ use Rattle.twp_grid.specs.Lands.{count_held}
 use Rattle.twp_grid.specs.Lands.{off_lots}
 use Rattle.twp_grid.specs.Lands.{standard_lots}
 use Rattle.twp_plat.specs.Closing.{QUARTER_MILE}
-use Rattle.twp_plat.specs.Plats.{TownshipPlat}
+use Rattle.twp_plat.specs.Plats.{SurveyPlat}
 use Rattle.twp_plat.specs.LandAreas.{places_of_position, IsLandArea}
 use Rattle.twp_plat.specs.declared.land_area.Account.{Account}
 use Rattle.twp_plat.specs.declared.land_area.Account.TheVariants.{Exact, Plat}
@@ -41,7 +41,7 @@ IsNominalShare g share = places_of_position g * share ≡ QUARTER_MILE * QUARTER
 
 -- The plat area of a set of places that contains each lot wholly or not at all: the printed units
 -- of each lot in it, and the nominal share of each place in it off the lots.
-pub record IsPlatArea (g : ℕ) (plat : TownshipPlat) (places : ℕ → ℕ → ℕ → Bool)
+pub record IsPlatArea (g : ℕ) (plat : SurveyPlat) (places : ℕ → ℕ → ℕ → Bool)
     (area : Fraction) : Type 0 where
   pub figures : PlatFigures
   pub are : AreFigures plat figures
@@ -52,6 +52,6 @@ pub record IsPlatArea (g : ℕ) (plat : TownshipPlat) (places : ℕ → ℕ → 
       ≡ sum_by (printed_units figures) (lots_held g places) + share * places_off_lots g places
 
 -- the area of a set of places by an account
-abbrev pub IsAreaBy : Account → ℕ → TownshipPlat → (ℕ → ℕ → ℕ → Bool) → Fraction → Type 0
+abbrev pub IsAreaBy : Account → ℕ → SurveyPlat → (ℕ → ℕ → ℕ → Bool) → Fraction → Type 0
 IsAreaBy Exact g plat places area = IsLandArea g plat places area
 IsAreaBy Plat g plat places area = IsPlatArea g plat places area

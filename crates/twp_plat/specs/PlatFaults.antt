@@ -6,7 +6,7 @@ use Rattle.twp_notes.specs.FieldNotes.{FieldNotes, returned_of}
 use Rattle.twp_notes.specs.declared.parsing.Returned.{Returned}
 use Rattle.twp_plat.specs.Closing.{first_half, second_half, last_quarter}
 use Rattle.twp_plat.specs.Closing.{IsRegular, CLOSING_LEAST, CLOSING_MOST}
-use Rattle.twp_plat.specs.Plats.{TownshipPlat, IsPlatOf}
+use Rattle.twp_plat.specs.Plats.{SurveyPlat, IsPlatOf}
 use Rattle.twp_plat.specs.declared.fault.HalfMile.TheVariants as half
 use Rattle.twp_plat.specs.declared.fault.PlatFault.{PlatFault}
 use Rattle.twp_plat.specs.declared.fault.PlatFault.TheVariants as fault
@@ -55,11 +55,11 @@ ComesFirst Has fault = (other : PlatFault) → Has other
     → IsFrom (place_of fault) (half_of fault) other
 
 -- the fault is present, and no fault that precedes it is
-pub record IsFirstFault (notes : FieldNotes) (fault : PlatFault) : Type 0 where
+pub record IsFirstPlatFault (notes : FieldNotes) (fault : PlatFault) : Type 0 where
   pub is : HasFault notes fault
   pub first : ComesFirst (HasFault notes) fault
 
 -- the plat that the notes make, or their first fault
-abbrev pub AnswersPlat : FieldNotes → Result TownshipPlat PlatFault → Type 0
+abbrev pub AnswersPlat : FieldNotes → Result SurveyPlat PlatFault → Type 0
 AnswersPlat notes (Ok plat) = IsPlatOf notes plat
-AnswersPlat notes (Err fault) = IsFirstFault notes fault
+AnswersPlat notes (Err fault) = IsFirstPlatFault notes fault

@@ -7,21 +7,21 @@ use Rattle.twp_plat.specs.Closing.{QUARTER_MILE, CLOSING_LEAST, CLOSING_MOST, Ma
 use Rattle.twp_plat.specs.Closing.{IsClosingQuarter}
 
 -- a township, and its lines' closing quarters by index
-pub record TownshipPlat : Type 0 where
+pub record SurveyPlat : Type 0 where
   pub township : Designation
   pub closing_quarters : List ℕ
 
 -- the closing quarter of a line
-abbrev pub closing_quarter_of : TownshipPlat → ℕ → ℕ
+abbrev pub closing_quarter_of : SurveyPlat → ℕ → ℕ
 closing_quarter_of plat line = slice_index_or plat.closing_quarters line 0
 
 -- the plat with these parts
-abbrev pub plat_of_parts : Designation → List ℕ → TownshipPlat
+abbrev pub plat_of_parts : Designation → List ℕ → SurveyPlat
 plat_of_parts township closing_quarters =
     record { township = township; closing_quarters = closing_quarters }
 
 -- the plat of the notes
-pub record IsPlatOf (notes : FieldNotes) (plat : TownshipPlat) : Type 0 where
+pub record IsPlatOf (notes : FieldNotes) (plat : SurveyPlat) : Type 0 where
   pub makes : MakesPlat notes
   pub township_is : plat.township ≡ notes.township
   pub closing : (line : ℕ) → IsLine line
@@ -40,7 +40,7 @@ AreQuartersOnPlat closing_quarters = (line : ℕ) → IsLine line
     → IsQuarterOnPlat line (slice_index_or closing_quarters line 0)
 
 -- the facts that hold for every plat, whatever its notes
-pub record IsPlat (plat : TownshipPlat) : Type 0 where
+pub record IsPlat (plat : SurveyPlat) : Type 0 where
   pub lines : length plat.closing_quarters ≡ LINE_COUNT
   pub within : (line : ℕ) → IsLine line → IsQuarterOnPlat line (closing_quarter_of plat line)
 
@@ -52,7 +52,7 @@ pub record ClosingQuarters : Type 0 where
   pub south : ℕ
 
 -- these are the closing quarters of the section's lines
-pub record AreClosingQuarters (plat : TownshipPlat) (section : ℕ) (q : ClosingQuarters) : Type 0 where
+pub record AreClosingQuarters (plat : SurveyPlat) (section : ℕ) (q : ClosingQuarters) : Type 0 where
   pub east_line : ℕ
   pub west_line : ℕ
   pub north_line : ℕ

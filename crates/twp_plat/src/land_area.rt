@@ -71,10 +71,25 @@ pub fn area_by<L: PlaceSet>(account: Account, plat: &Plat, land: &L) -> Area
     Area::new(units, over).unwrap()
 }
 
-/// The area of the land in a section, in parts of the account's denominator. The land contains each
-/// lot wholly or not at all, so one place of a lot decides whether its units are added; the places
-/// off the lots are counted.
+/// The area of the land in a section, in parts of the account's denominator. Most sections have no lots.
+#[inline(always)]
 fn units_in_section<L: PlaceSet>(account: Account, plat: &Plat, land: &L, section: Section) -> u128
+    requires whole { HasWholeLots STANDARD_LOTS (L.places land.now) }
+    ensures sum { (units : ℕ → ℕ → ℕ → ℕ) → AreUnitsBy account plat.now units
+        → places_of_position PLACE_DIGITS * result
+        ≡ section_sum PLACE_DIGITS (units section) (L.places land.now section) }
+    ensures most { result ≤ SECTION_UNITS_MOST * over_by account plat.now }
+{
+    if lot_count(section) != 0 {
+        return units_with_lots(account, plat, land, section);
+    }
+    regular_units(land.count(section, Block::whole()), account.over(plat))
+}
+
+/// The same in a section that may have lots. The land contains each lot wholly or not at all, so one place of a lot decides whether its units are added; the places
+/// off the lots are counted.
+#[inline(never)]
+fn units_with_lots<L: PlaceSet>(account: Account, plat: &Plat, land: &L, section: Section) -> u128
     requires whole { HasWholeLots STANDARD_LOTS (L.places land.now) }
     ensures sum { (units : ℕ → ℕ → ℕ → ℕ) → AreUnitsBy account plat.now units
         → places_of_position PLACE_DIGITS * result

@@ -31,9 +31,9 @@ pub struct Plat {
 }
 
 impl Model for Plat {
-    ghost use Rattle.twp_plat.specs.Plats.{TownshipPlat, IsPlat};
+    ghost use Rattle.twp_plat.specs.Plats.{SurveyPlat, IsPlat};
 
-    ghost Value = { TownshipPlat };
+    ghost Value = { SurveyPlat };
 
     ghost view = { λ plat.
         record { township = plat.township; closing_quarters = plat.closing_quarters } };

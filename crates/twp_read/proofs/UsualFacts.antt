@@ -1,11 +1,8 @@
 -- What the reader takes as a whole leads it on as if it were cut token by token.
-use Rattle.std.proofs.Common.{◌≡◌, ◌==◌, ℕ, ◌+◌, Bool, true, List, [], ◌∷◌, ◌++◌, Some, length, drop, refl}
-use Rattle.std.proofs.Common.{sym, ap, subst, ◌∙◌, arith}
-use Rattle.std.specs.List.{starts_with}
+use Rattle.std.proofs.Common.{◌≡◌, ℕ, ◌+◌, Bool, true, List, [], ◌∷◌, ◌++◌, Some, length, drop, refl}
+use Rattle.std.proofs.Common.{sym, ap, subst, ◌∙◌, arith, suc, ◌<◌, ◌≤◌, get_or}
 use Rattle.std.specs.Option.{is_some}
-use Rattle.std.proofs.lemmas.Bool.Decides.{Decides-eqb}
 use Rattle.std.proofs.lemmas.List.{drop-drop}
-use Rattle.std.proofs.lemmas.Slice.Eq.{starts_is}
 use Rattle.twp_grid.specs.declared.block.Side.TheVariants as side
 use Rattle.twp_read.specs.declared.watch.ItemChange.TheVariants.{Grown}
 use Rattle.twp_grammar.specs.declared.item.Item.{Item}
@@ -227,14 +224,22 @@ first_leads text at state its it size to after grown begins s more =
     ((at + s.letters_size) + s.fraction_size) past.Step begun letters fraction) in
     leads_then text at state its (at + size) past.Step begun to after grown both more
 
--- what a test of the bytes at a place says
-pub begins_there : (text : List ℕ) (at : ℕ) (bytes left : List ℕ) (found : Bool) → left ≡ drop at text
-    → found ≡ starts_with ◌==◌ left bytes → found ≡ true
+-- what a test of the bytes at a place says, one by one
+pub begins_there : (text : List ℕ) (at : ℕ) (bytes left : List ℕ) → left ≡ drop at text
+    → length bytes ≤ length left
+    → ((k : ℕ) → k < length bytes → get_or left k 0 ≡ get_or bytes k 0)
     → drop at text ≡ bytes ++ drop (at + length bytes) text
-begins_there text at bytes left found left_is value is_true =
-    let spelled : left ≡ bytes ++ drop (length bytes) left =
-    (starts_is Decides-eqb left bytes found value).0 is_true in
+begins_there text at bytes left left_is few same =
     sym left_is
-    ∙ spelled
+    ∙ alike left bytes few same
     ∙ ap (λ b. bytes ++ drop (length bytes) b) left_is
     ∙ ap (λ b. bytes ++ b) (drop-drop (length bytes) at text)
+  where
+    alike : (xs ys : List ℕ) → length ys ≤ length xs
+        → ((k : ℕ) → k < length ys → get_or xs k 0 ≡ get_or ys k 0)
+        → xs ≡ ys ++ drop (length ys) xs
+    alike xs [] few same = refl
+    alike [] (y ∷ ys) few same = absurd (omega arith)
+    alike (x ∷ xs) (y ∷ ys) few same =
+        ap (λ z. z ∷ xs) (same 0 (omega arith))
+        ∙ ap (λ zs. y ∷ zs) (alike xs ys (omega arith) (λ k below. same (suc k) (omega arith)))

@@ -10,6 +10,7 @@ mod parts;
 
 use crate::doubt::{Doubt, DoubtfulPlace, Doubts, begins_step, is_padded, is_singular};
 use crate::doubts::parts::part_at;
+pub use parts::{after_part, is_of_part, is_of_step};
 use std::alloc::{AllocError, Global};
 use twp_grammar::{Kind, Token, Tokens};
 

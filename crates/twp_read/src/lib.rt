@@ -14,5 +14,5 @@ mod watch;
 
 pub use description::{Description, Noted};
 pub use doubt::{Clarity, Doubt, DoubtfulPlace, Doubts, begins_step, is_padded, is_singular};
-pub use doubts::doubts_in;
+pub use doubts::{after_part, doubts_in, is_of_part, is_of_step};
 pub use fault::{TEXT_LIMIT, TextFault};

@@ -6,7 +6,7 @@ use Rattle.std.proofs.lemmas.Bool.{cases_lt}
 use Rattle.twp_notes.specs.Records.{Fields, records_of, record_numbered}
 use Rattle.twp_plat.specs.LandRecords.{land_heading}
 use Rattle.twp_plat.specs.LandFaults.{HasLandFault}
-use Rattle.twp_plat.specs.LotsFaults.{IsFirstFault, IsFrom, place_of, refusal_of, stage_of}
+use Rattle.twp_plat.specs.LotsFaults.{IsFirstLotsFault, IsFrom, place_of, refusal_of, stage_of}
 use Rattle.twp_plat.specs.steps.LandEntries.{AreLandEntered}
 use Rattle.twp_plat.specs.steps.LotReading.{AreLandLots, IsFirstUnfilled, DivideTooMany, IsLandRefused}
 use Rattle.twp_plat.specs.declared.lots.fault.LotsFault.{LotsFault}
@@ -134,7 +134,7 @@ divided_first records rows number are is found = (
 
 -- the result if the rows were refused
 pub land_refused : (bytes : List ℕ) (rows : List Fields) (is : LotsFault) → AreAfter bytes land_heading rows
-    → IsLandRefused rows is → IfSome (refusal_of is) (λ _. IsFirstFault bytes is)
+    → IsLandRefused rows is → IfSome (refusal_of is) (λ _. IsFirstLotsFault bytes is)
 land_refused bytes rows is after refused = by is refused
   where
     records : List Fields
@@ -146,7 +146,7 @@ land_refused bytes rows is after refused = by is refused
     heading_is : record_numbered records 1 ≡ land_heading
     heading_is = rw after.split after.heading_is
 
-    by : (is : LotsFault) → IsLandRefused rows is → IfSome (refusal_of is) (λ _. IsFirstFault bytes is)
+    by : (is : LotsFault) → IsLandRefused rows is → IfSome (refusal_of is) (λ _. IsFirstLotsFault bytes is)
     by fault.Memory refused = tt
     by fault.Read refused = tt
     by (fault.Columns at) refused =

@@ -12,9 +12,9 @@ use Rattle.twp_plat.specs.LotTables.{FIGURE_MOST, IsLotNumber, lot_index}
 use Rattle.twp_plat.specs.LotTables.{standard_figure}
 use Rattle.twp_plat.specs.declared.lots.returned.ReturnedLots.{ReturnedLots}
 use Rattle.twp_plat.specs.LotRecords.{LOT_FIELDS, lots_heading, HasNoAcres, NamesLot, IsRowNumber, IsLotNamed}
-use Rattle.twp_plat.specs.LotTexts.{AreLots}
+use Rattle.twp_plat.specs.LotTexts.{IsLotTable}
 use Rattle.twp_plat.specs.LotsFaults.{NamesNoLot, HasLotFault, IsLotRepeated, IsFrom}
-use Rattle.twp_plat.specs.LotsFaults.{IsFirstFault, refusal_of}
+use Rattle.twp_plat.specs.LotsFaults.{IsFirstLotsFault, refusal_of}
 use Rattle.twp_plat.specs.steps.LotEntries.{entry_of, IsEntered, IsLotNamedBy, AreEntered}
 use Rattle.twp_plat.specs.steps.LotEntries.{IsLotRefusedNext, IsLotRefusedAfter}
 use Rattle.twp_plat.specs.steps.LotReading.{AreStandardLots}
@@ -159,7 +159,7 @@ first_of_repeated records rows number are next =
 
 -- the result if the records of lots were refused
 pub lots_refused : (bytes : List ℕ) (rows : List Fields) (is : LotsFault) → AreAfter bytes lots_heading rows
-    → IsLotRefusedAfter rows is → IfSome (refusal_of is) (λ _. IsFirstFault bytes is)
+    → IsLotRefusedAfter rows is → IfSome (refusal_of is) (λ _. IsFirstLotsFault bytes is)
 lots_refused bytes rows is after refused = by is refused
   where
     are : AreRows (records_of bytes) rows
@@ -168,7 +168,8 @@ lots_refused bytes rows is after refused = by is refused
     heading_is : record_numbered (records_of bytes) 1 ≡ lots_heading
     heading_is = rw after.split after.heading_is
 
-    by : (is : LotsFault) → IsLotRefusedAfter rows is → IfSome (refusal_of is) (λ _. IsFirstFault bytes is)
+    by : (is : LotsFault) → IsLotRefusedAfter rows is
+        → IfSome (refusal_of is) (λ _. IsFirstLotsFault bytes is)
     by fault.Memory refused = tt
     by fault.Read refused = tt
     by (fault.Columns number) refused =
@@ -212,7 +213,7 @@ named_of records rows figures section lot are entered range number some =
 -- if all records were entered, they are a lot table
 pub lots_of_entries : (bytes : List ℕ) (rows : List Fields) (lots : ReturnedLots)
     (after : AreAfter bytes lots_heading rows) → AreStandardLots rows lots
-    → AreLots bytes (record { township = after.township; date = after.date; lots = lots })
+    → IsLotTable bytes (record { township = after.township; date = after.date; lots = lots })
 lots_of_entries bytes rows lots after are = record {
   size = after.size;
   records_are = inl (record {

@@ -8,7 +8,8 @@ use Rattle.twp_notes.specs.declared.reading.ReadFault.TheVariants as reading
 use Rattle.twp_plat.specs.LotRecords.{LOTS_TEXT_MOST, lots_heading}
 use Rattle.twp_plat.specs.LandRecords.{land_heading}
 use Rattle.twp_plat.specs.LandFaults.{HasLandFault}
-use Rattle.twp_plat.specs.LotsFaults.{AnswersLots, HasFault, HasLotFault, HasRowFault, IsFirstFault, IsFrom}
+use Rattle.twp_plat.specs.LotsFaults.{AnswersLots, HasFault, HasLotFault, HasRowFault, IsFirstLotsFault}
+use Rattle.twp_plat.specs.LotsFaults.{IsFrom}
 use Rattle.twp_plat.specs.LotsFaults.{refusal_of}
 use Rattle.twp_plat.specs.steps.LotReading.{heading_fields, IsPlatFault}
 use Rattle.twp_plat.specs.steps.PassedLotFaults.{lots_fault_of}
@@ -31,7 +32,7 @@ answers_reading bytes reading.Read = tt
 answers_reading bytes reading.Memory = tt
 
 -- too many bytes are the first fault
-pub too_large_first : (bytes : List ℕ) → LOTS_TEXT_MOST < length bytes → IsFirstFault bytes fault.TooLarge
+pub too_large_first : (bytes : List ℕ) → LOTS_TEXT_MOST < length bytes → IsFirstLotsFault bytes fault.TooLarge
 too_large_first bytes large = record { is = large; first = λ other has. before other }
   where
     before : (other : LotsFault) → IsFrom 0 LOTS_TEXT_MOST 86 other
@@ -118,7 +119,7 @@ no_heading_fault bytes heading.Land first rest split is has = has.1 (rw split is
 plat_first : (bytes : List ℕ) (kind : Heading) (first second : Fields) (rest : List Fields)
     (is : LotsFault)
     → length bytes ≤ LOTS_TEXT_MOST → records_of bytes ≡ first ∷ second ∷ rest → first ≡ heading_fields kind
-    → IsPlatFault second is → IsFirstFault bytes is
+    → IsPlatFault second is → IsFirstLotsFault bytes is
 plat_first bytes kind first second rest is size split named = by is
   where
     two : record_numbered (records_of bytes) 2 ≡ second
@@ -129,9 +130,9 @@ plat_first bytes kind first second rest is size split named = by is
         let all : length (records_of bytes) ≡ 2 + length rest = rw split (omega arith) in
         omega (arith, all)
 
-    by : (is : LotsFault) → IsPlatFault second is → IsFirstFault bytes is
+    by : (is : LotsFault) → IsPlatFault second is → IsFirstLotsFault bytes is
     by (fault.Columns number) (at, not_five, not_six) =
-        subst (λ n. IsFirstFault bytes (fault.Columns n)) (sym at) (record {
+        subst (λ n. IsFirstLotsFault bytes (fault.Columns n)) (sym at) (record {
           is = inl (refl, long, rw two not_five, rw two not_six);
           first = none_before bytes 2 89 (record {
             size = size;
@@ -173,8 +174,8 @@ plat_first bytes kind first second rest is size split named = by is
     by _ wrong = absurd wrong
 
 -- a first fault is an answer
-answers_first : (bytes : List ℕ) (is : LotsFault) → IsFirstFault bytes is
-    → IfSome (refusal_of is) (λ _. IsFirstFault bytes is)
+answers_first : (bytes : List ℕ) (is : LotsFault) → IsFirstLotsFault bytes is
+    → IfSome (refusal_of is) (λ _. IsFirstLotsFault bytes is)
 answers_first bytes fault.Read first = tt
 answers_first bytes fault.Memory first = tt
 answers_first bytes _ first = first
@@ -182,7 +183,7 @@ answers_first bytes _ first = first
 pub plat_refused : (bytes : List ℕ) (kind : Heading) (first second : Fields) (rest : List Fields)
     (is : LotsFault)
     → length bytes ≤ LOTS_TEXT_MOST → records_of bytes ≡ first ∷ second ∷ rest → first ≡ heading_fields kind
-    → IsPlatFault second is → IfSome (refusal_of is) (λ _. IsFirstFault bytes is)
+    → IsPlatFault second is → IfSome (refusal_of is) (λ _. IsFirstLotsFault bytes is)
 plat_refused bytes kind first second rest is size split named fault =
     answers_first bytes is (plat_first bytes kind first second rest is size split named fault)
 

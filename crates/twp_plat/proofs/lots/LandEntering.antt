@@ -16,7 +16,8 @@ use Rattle.twp_plat.specs.steps.LandEntries.{lots_in, AreNoEntries}
 use Rattle.twp_plat.specs.steps.LandEntries.{IsForMark, IsAdded}
 use Rattle.twp_plat.specs.steps.LandEntries.{EntersLand, IsLandRow, IsForSection, IsForSome}
 use Rattle.twp_plat.specs.steps.LandEntries.{IsMarkOf}
-use Rattle.twp_plat.specs.steps.LandEntries.{AreLandEntered, AreClear, IsLandNotEntered, IsLandRefusedAfter}
+use Rattle.twp_plat.specs.steps.LandEntries.{AreLandEntered, AreUnmarked, IsLandNotEntered}
+use Rattle.twp_plat.specs.steps.LandEntries.{IsLandRefusedAfter}
 use Rattle.twp_plat.specs.declared.lots.fault.LotsFault.{LotsFault}
 use Rattle.twp_plat.specs.declared.lots.fault.LotsFault.TheVariants as fault
 use Rattle.twp_plat.specs.declared.lots.land_entries.LotEntries.{LotEntries}
@@ -26,7 +27,7 @@ use Rattle.twp_plat.proofs.lots.LandRowFacts.{one_number, one_lot, lot_or_none, 
 use Rattle.twp_plat.proofs.lots.LandRowFacts.{held_in, had_mark}
 
 -- before any record was entered
-pub none_entered : (rows : List Fields) (marks : List (List ℕ)) (entries : LotEntries) → AreClear marks
+pub none_entered : (rows : List Fields) (marks : List (List ℕ)) (entries : LotEntries) → AreUnmarked marks
     → AreNoEntries entries → AreLandEntered rows 0 marks entries
 none_entered rows marks entries clear none = record {
   each = λ index below. absurd (omega (arith, below));

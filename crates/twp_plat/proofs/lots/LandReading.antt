@@ -9,8 +9,8 @@ use Rattle.twp_grammar.specs.Tokens.{Token, HasTokens, StartsWith, is_white}
 use Rattle.twp_grammar.specs.Grammar.{class_of}
 use Rattle.twp_grammar.specs.Cutting.{IsFirstIn}
 use Rattle.twp_grammar.proofs.TokenFacts.{one_token_list, has_token_list}
-use Rattle.twp_plat.specs.declared.lots.land_text.Reached.{Reached}
-use Rattle.twp_plat.specs.declared.lots.land_text.Reached.TheVariants as past
+use Rattle.twp_plat.specs.declared.lots.land_text.LandState.{LandState}
+use Rattle.twp_plat.specs.declared.lots.land_text.LandState.TheVariants as past
 use Rattle.twp_plat.specs.declared.lots.land_text.Painting.{Painting}
 use Rattle.twp_plat.specs.LandTexts.{AreAliquotParts}
 use Rattle.twp_plat.specs.steps.LandWalk.{next, walk, parts_after, steps_after, ends_part, with_step, step_of}
@@ -19,7 +19,7 @@ use Rattle.twp_plat.proofs.lots.LandTrees.{walk_of_tree, tree_of_walk, IsTreeOf}
 
 -- the tokens of the text before this place led to this state, to whole parts, and to the steps of one that
 -- has begun
-pub record AreReadTo (text : List ℕ) (at : ℕ) (reached : Reached) (parts : List (List Step))
+pub record AreReadTo (text : List ℕ) (at : ℕ) (reached : LandState) (parts : List (List Step))
     (steps : List Step) : Type 0 where
   pub within : at ≤ length text
   pub tokens : List Token
@@ -37,7 +37,7 @@ none_read text = record {
 }
 
 -- one more token
-pub one_read : (text : List ℕ) (at : ℕ) (reached after : Reached) (parts : List (List Step))
+pub one_read : (text : List ℕ) (at : ℕ) (reached after : LandState) (parts : List (List Step))
     (steps : List Step)
     (token : Token)
     → AreReadTo text at reached parts steps → IsFirstIn text at token
@@ -70,7 +70,7 @@ parts_are text ts o has walked parts are =
     ∙ ap (λ (all : List (List Step)). Some all) are.read_off
 
 -- no sequence of parts begins with the tokens so far and the next one
-pub not_parts : (text : List ℕ) (at : ℕ) (reached : Reached) (parts : List (List Step)) (steps : List Step)
+pub not_parts : (text : List ℕ) (at : ℕ) (reached : LandState) (parts : List (List Step)) (steps : List Step)
     (token : Token)
     → AreReadTo text at reached parts steps → IsFirstIn text at token
     → next reached (class_of token.kind) ≡ None → (all : List (List Step)) → AreAliquotParts text all → ⊥
@@ -85,24 +85,24 @@ not_parts text at reached parts steps token read first leads all are =
     cc (parts_are text (read.tokens ++ token ∷ left.0) None has walked all are)
 
 -- the tokens end in the middle of a step or before a part
-pub not_ended : (text : List ℕ) (at : ℕ) (reached : Reached) (parts : List (List Step)) (steps : List Step)
+pub not_ended : (text : List ℕ) (at : ℕ) (reached : LandState) (parts : List (List Step)) (steps : List Step)
     → AreReadTo text at reached parts steps → AllPass is_white (drop at text) → reached ≢ past.Step
     → (all : List (List Step)) → AreAliquotParts text all → ⊥
 not_ended text at reached parts steps read white other all are =
     cc (parts_are text (read.tokens ++ []) None (read.joins [] white)
     (read.walked [] ∙ none reached other) all are)
   where
-    none : (state : Reached) → state ≢ past.Step → walk (Some state) parts steps [] ≡ None
+    none : (state : LandState) → state ≢ past.Step → walk (Some state) parts steps [] ≡ None
     none past.Step other = absurd (other refl)
     none _ other = refl
 
 -- the tokens end after a step
-pub all_read : (text : List ℕ) (at : ℕ) (reached : Reached) (parts : List (List Step)) (steps : List Step)
+pub all_read : (text : List ℕ) (at : ℕ) (reached : LandState) (parts : List (List Step)) (steps : List Step)
     → AreReadTo text at reached parts steps → AllPass is_white (drop at text) → reached ≡ past.Step
     → AreAliquotParts text (parts ++ steps ∷ [])
 all_read text at reached parts steps read white is =
     let walked : walk (Some past.Part) [] [] (read.tokens ++ []) ≡ Some (parts ++ steps ∷ []) =
-    read.walked [] ∙ ap (λ (state : Reached). walk (Some state) parts steps []) is in
+    read.walked [] ∙ ap (λ (state : LandState). walk (Some state) parts steps []) is in
     let made : IsTreeOf (read.tokens ++ []) (parts ++ steps ∷ []) =
     tree_of_walk (read.tokens ++ []) (parts ++ steps ∷ []) walked in
     record {
@@ -131,14 +131,15 @@ one_parts text parts parts' are are' =
     only e = ap value_or e
 
 -- the tokens so far were read, and the whole parts painted
-pub record AreLandSteps (text : List ℕ) (at : ℕ) (reached : Reached) (steps : List Step) (painting : Painting)
+pub record AreLandSteps (text : List ℕ) (at : ℕ) (reached : LandState) (steps : List Step)
+    (painting : Painting)
     (section mark : ℕ) (old new : List (List ℕ)) : Type 0 where
   pub parts : List (List Step)
   pub read : AreReadTo text at reached parts steps
   pub painted : IsPainting painting section parts mark old new
 
 -- the next token separates two parts
-pub parted : (text : List ℕ) (end : ℕ) (reached after : Reached) (kind : Kind) (parts : List (List Step))
+pub parted : (text : List ℕ) (end : ℕ) (reached after : LandState) (kind : Kind) (parts : List (List Step))
     (steps : List Step)
     → AreReadTo text end after (parts_after reached kind parts steps) (steps_after reached kind steps)
     → ends_part reached (class_of kind) ≡ true → AreReadTo text end after (parts ++ steps ∷ []) []
@@ -147,7 +148,7 @@ parted text end reached after kind parts steps read ends =
     (if b then [] else with_step (step_of kind) steps)) ends read
 
 -- it does not
-pub continued : (text : List ℕ) (end : ℕ) (reached after : Reached) (kind : Kind) (parts : List (List Step))
+pub continued : (text : List ℕ) (end : ℕ) (reached after : LandState) (kind : Kind) (parts : List (List Step))
     (steps : List Step) (step : Option Step)
     → AreReadTo text end after (parts_after reached kind parts steps) (steps_after reached kind steps)
     → ends_part reached (class_of kind) ≡ false → step_of kind ≡ step

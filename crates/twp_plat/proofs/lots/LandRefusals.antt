@@ -12,7 +12,7 @@ use Rattle.twp_plat.specs.LandFaults.{HasPlaceTwice, HasPlaceOfEarlier, SharesPl
 use Rattle.twp_plat.specs.LandFaults.{HasLandFault}
 use Rattle.twp_plat.specs.LotsFaults.{IsFrom}
 use Rattle.twp_plat.specs.steps.LandPaints.{AreFine, ArePainted, IsPlaceShared}
-use Rattle.twp_plat.specs.steps.LandEntries.{AreFull, IsForLand, IsForMark, IsMarkOf, lots_in}
+use Rattle.twp_plat.specs.steps.LandEntries.{IsFullOfLots, IsForLand, IsForMark, IsMarkOf, lots_in}
 use Rattle.twp_plat.specs.steps.LandEntries.{AreLandEntered, IsLandRefusedNext}
 use Rattle.twp_plat.specs.declared.lots.fault.LotsFault.{LotsFault}
 use Rattle.twp_plat.specs.declared.lots.fault.LotsFault.TheVariants as fault
@@ -280,7 +280,7 @@ not_shared records rows count section mark marks now entries parts are entered i
 one_too_many : (records rows : List Fields) (count section lot : ℕ) (marks : List (List ℕ))
     (entries : LotEntries)
     → AreRows records rows → AreLandEntered rows count marks entries
-    → IsForLot (record_at rows count) section lot → AreFull section entries
+    → IsForLot (record_at rows count) section lot → IsFullOfLots section entries
     → IsOneTooMany records (count + 3)
 one_too_many records rows count section lot marks entries are entered is (inl full) = record {
   section = section;

@@ -17,9 +17,9 @@ use Rattle.twp_land.proofs.MarkedLots.{at_lot, lot_at}
 use Rattle.twp_notes.specs.Records.{Fields, field, records_of, record_at}
 use Rattle.twp_plat.specs.LotTables.{FIGURE_MOST, entered_for, figure_of, figure_within}
 use Rattle.twp_plat.specs.LotRecords.{IsAcresText}
-use Rattle.twp_plat.specs.LandRecords.{land_heading, IsForLot, IsLotAt, IsNoLandAt, IsReturnedFor, ArePlatted}
+use Rattle.twp_plat.specs.LandRecords.{land_heading, IsForLot, IsLotAt, IsNoLandAt, IsReturnedFor, LayOutLots}
 use Rattle.twp_plat.specs.LandFaults.{IsMark}
-use Rattle.twp_plat.specs.LotTexts.{AreLots}
+use Rattle.twp_plat.specs.LotTexts.{IsLotTable}
 use Rattle.twp_plat.specs.LotsFaults.{AnswersLots}
 use Rattle.twp_plat.specs.declared.lots.fault.LotsFault.{LotsFault}
 use Rattle.twp_plat.specs.declared.lots.table.LotTable.{LotTable}
@@ -61,7 +61,7 @@ at_land positions divided section c r none = by (cases_Bool (is_place PLACE_DIGI
 -- the lots are where the records say
 platted : (records rows : List Fields) (lots : ReturnedLots) → AreRows records rows
     → (land : AreLandLots rows lots)
-    → ArePlatted records (layout_of_bytes land.positions land.divided) (figure_of lots)
+    → LayOutLots records (layout_of_bytes land.positions land.divided) (figure_of lots)
 platted records rows lots are land = record {
   lots = λ section lot c r range. (
     λ is.
@@ -174,7 +174,7 @@ platted records rows lots are land = record {
 -- the result if all rows were entered
 pub land_table : (bytes : List ℕ) (rows : List Fields) (lots : ReturnedLots)
     (after : AreAfter bytes land_heading rows) → AreLandLots rows lots
-    → AreLots bytes (record { township = after.township; date = after.date; lots = lots })
+    → IsLotTable bytes (record { township = after.township; date = after.date; lots = lots })
 land_table bytes rows lots after land =
     let are : AreRows (records_of bytes) rows = rows_after bytes land_heading rows after in
     record {
@@ -184,7 +184,7 @@ land_table bytes rows lots after land =
         plat_is = rw after.split after.plat_is;
         sound = sound (records_of bytes) rows lots are land;
         platted =
-            subst (λ (layout : Layout). ArePlatted (records_of bytes) layout (figure_of lots))
+            subst (λ (layout : Layout). LayOutLots (records_of bytes) layout (figure_of lots))
             (sym land.layout)
             (platted (records_of bytes) rows lots are land);
       });
@@ -197,8 +197,9 @@ pub land_answer : (bytes : List ℕ) (rows : List Fields) (result : Result LotTa
     → IfErr result (IsLandRefused rows) → AnswersLots bytes result
 land_answer bytes rows (Ok table) after township date lots fault =
     let is = land_table bytes rows table.lots after lots in
-    subst (λ (t : Designation). AreLots bytes (record { township = t; date = table.date; lots = table.lots }))
+    subst
+    (λ (t : Designation). IsLotTable bytes (record { township = t; date = table.date; lots = table.lots }))
     (sym township)
-    (subst (λ (d : ℕ). AreLots bytes (record { township = after.township; date = d; lots = table.lots }))
+    (subst (λ (d : ℕ). IsLotTable bytes (record { township = after.township; date = d; lots = table.lots }))
     (sym date) is)
 land_answer bytes rows (Err is) after township date lots refused = land_refused bytes rows is after refused

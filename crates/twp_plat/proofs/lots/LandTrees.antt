@@ -12,8 +12,8 @@ use Rattle.twp_grammar.specs.Items.{◌&◌, Tree}
 use Rattle.twp_grammar.specs.Items as derived
 use Rattle.twp_grammar.proofs.Derivatives.{Derives, after, seq, from_seq, derives_none, takes_token}
 use Rattle.twp_grammar.proofs.TreeFacts.{onto, onto_is}
-use Rattle.twp_plat.specs.declared.lots.land_text.Reached.{Reached}
-use Rattle.twp_plat.specs.declared.lots.land_text.Reached.TheVariants as past
+use Rattle.twp_plat.specs.declared.lots.land_text.LandState.{LandState}
+use Rattle.twp_plat.specs.declared.lots.land_text.LandState.TheVariants as past
 use Rattle.twp_plat.specs.LandTexts.{aliquot_parts, steps_of, parts_of}
 use Rattle.twp_plat.specs.steps.LandWalk.{next, walk, parts_after, steps_after}
 
@@ -25,7 +25,7 @@ abbrev from_step : Ebnf
 from_step = after half (after north_south from_part)
 
 -- what may follow in each state
-rest : Reached → Ebnf
+rest : LandState → Ebnf
 rest past.Part = from_part
 rest past.Comma = after comma from_step
 rest past.Side = after north_south from_part
@@ -34,11 +34,11 @@ rest past.Step = from_step
 rest past.Of = after of from_step
 rest past.OfThe = after the (after of from_step)
 
-abbrev Leaves : Ebnf → Option Reached → Type 0
+abbrev Leaves : Ebnf → Option LandState → Type 0
 Leaves g None = Unit {0}
 Leaves g (Some reached) = g ≡ rest reached
 
-edge : (reached : Reached) (class : Class) → Leaves (after class (rest reached)) (next reached class)
+edge : (reached : LandState) (class : Class) → Leaves (after class (rest reached)) (next reached class)
 unfolding rest
 edge past.Part north_south = refl
 edge past.Part east_west = refl
@@ -80,7 +80,7 @@ unfolding rest
 part_is = refl
 
 -- tokens that are read to the end are derived
-derived_from : (reached : Option Reached) (g : Ebnf) (parts : List (List Step)) (steps : List Step)
+derived_from : (reached : Option LandState) (g : Ebnf) (parts : List (List Step)) (steps : List Step)
     (ts : List Token)
     (all : List (List Step)) → Leaves g reached → walk reached parts steps ts ≡ Some all
     → Derives g ts
@@ -99,7 +99,7 @@ derived_from (Some _) g parts steps [] all leaves h = cc h
 data Before : Type 0 where
   at_part at_comma at_step at_of at_of_the : Before
 
-abbrev before : Before → Reached
+abbrev before : Before → LandState
 before at_part = past.Part
 before at_comma = past.Comma
 before at_step = past.Step

@@ -4,7 +4,7 @@ use Rattle.std.specs.Option.{option_map_or}
 use Rattle.twp_measure.specs.Areas.{HUNDREDTH_OF_AN_ACRE}
 use Rattle.twp_grid.specs.Lots.{lot_at_position}
 use Rattle.twp_plat.specs.Closing.{QUARTER_MILE}
-use Rattle.twp_plat.specs.Plats.{TownshipPlat}
+use Rattle.twp_plat.specs.Plats.{SurveyPlat}
 use Rattle.twp_plat.specs.Pieces.{over_of}
 use Rattle.twp_plat.specs.Pieces.{ArePieces}
 use Rattle.twp_plat.specs.PlatFigures.{PlatFigures, AreFigures}
@@ -12,7 +12,7 @@ use Rattle.twp_plat.specs.declared.land_area.Account.{Account}
 use Rattle.twp_plat.specs.declared.land_area.Account.TheVariants.{Exact, Plat}
 
 -- the denominator of an account
-abbrev pub over_by : Account → TownshipPlat → ℕ
+abbrev pub over_by : Account → SurveyPlat → ℕ
 over_by Exact plat = over_of plat
 over_by Plat plat = 1
 
@@ -22,7 +22,7 @@ position_units lot_units regular section column row =
     option_map_or (lot_units section) (lot_at_position section column row) regular
 
 -- the units of each position, with the acreage that the plat shows for lots
-pub record ArePrintedUnits (plat : TownshipPlat) (units : ℕ → ℕ → ℕ → ℕ) : Type 0 where
+pub record ArePrintedUnits (plat : SurveyPlat) (units : ℕ → ℕ → ℕ → ℕ) : Type 0 where
   pub figures : PlatFigures
   pub are : AreFigures plat figures
   pub units_are : units ≡ position_units
@@ -30,6 +30,6 @@ pub record ArePrintedUnits (plat : TownshipPlat) (units : ℕ → ℕ → ℕ �
       (QUARTER_MILE * QUARTER_MILE)
 
 -- the units of each position by an account
-abbrev pub AreUnitsBy : Account → TownshipPlat → (ℕ → ℕ → ℕ → ℕ) → Type 0
+abbrev pub AreUnitsBy : Account → SurveyPlat → (ℕ → ℕ → ℕ → ℕ) → Type 0
 AreUnitsBy Exact plat units = ArePieces plat units
 AreUnitsBy Plat plat units = ArePrintedUnits plat units

@@ -3,25 +3,25 @@ use Rattle.std.specs.Prelude.{◌==◌, ℕ, Bool, false, List, [], ◌∷◌, �
 use Rattle.std.specs.Prelude.{if◌then◌else◌, length, nat_le}
 use Rattle.twp_plat.specs.PlainTables.{comma, semicolon, tab, quotation_mark, is_line_end, plain_row}
 use Rattle.twp_plat.specs.PlainTables.{unclosed_after, first_line, byte_order_mark_of, after_byte_order_mark}
-use Rattle.twp_plat.specs.declared.lots.sheet.cells.Place.{Place}
-use Rattle.twp_plat.specs.declared.lots.sheet.cells.Place.TheVariants as at
-use Rattle.twp_plat.specs.declared.lots.sheet.cells.Step.{Step}
-use Rattle.twp_plat.specs.declared.lots.sheet.cells.Step.TheVariants as does
+use Rattle.twp_plat.specs.declared.lots.sheet.cells.CellPlace.{CellPlace}
+use Rattle.twp_plat.specs.declared.lots.sheet.cells.CellPlace.TheVariants as at
+use Rattle.twp_plat.specs.declared.lots.sheet.cells.Effect.{Effect}
+use Rattle.twp_plat.specs.declared.lots.sheet.cells.Effect.TheVariants as does
 
 -- a byte that is not a quotation mark, outside of quotation marks: it ends the cell, or joins it
-abbrev pub bare_step : Bool → Step
-bare_step ends = if ends then does.EndsCell else does.Joins at.Bare
+abbrev pub bare_effect : Bool → Effect
+bare_effect ends = if ends then does.EndsCell else does.Joins at.Bare
 
 -- what a byte does to the cell at hand if it is a quotation mark, if it is the separator, and otherwise
-abbrev pub step_by : Place → Bool → Bool → Step
-step_by at.Start quotes ends = if quotes then does.Opens at.Quoted else bare_step ends
-step_by at.Bare quotes ends = if quotes then does.Fails else bare_step ends
-step_by at.Quoted quotes ends = if quotes then does.Opens at.AfterQuote else does.Joins at.Quoted
-step_by at.AfterQuote quotes ends =
+abbrev pub effect_by : CellPlace → Bool → Bool → Effect
+effect_by at.Start quotes ends = if quotes then does.Opens at.Quoted else bare_effect ends
+effect_by at.Bare quotes ends = if quotes then does.Fails else bare_effect ends
+effect_by at.Quoted quotes ends = if quotes then does.Opens at.AfterQuote else does.Joins at.Quoted
+effect_by at.AfterQuote quotes ends =
     if quotes then does.Joins at.Quoted else if ends then does.EndsCell else does.Fails
 
-abbrev pub step_of : ℕ → Place → ℕ → Step
-step_of separator place byte = step_by place (byte == quotation_mark) (byte == separator)
+abbrev pub effect_of : ℕ → CellPlace → ℕ → Effect
+effect_of separator place byte = effect_by place (byte == quotation_mark) (byte == separator)
 
 -- a cell before the others
 abbrev pub with_cell : List ℕ → Option (List (List ℕ)) → Option (List (List ℕ))
@@ -29,16 +29,16 @@ with_cell cell None = None
 with_cell cell (Some cells) = Some (cell ∷ cells)
 
 -- the last cell, unless the line ends within quotation marks
-abbrev pub last_cell : Place → List ℕ → Option (List (List ℕ))
+abbrev pub last_cell : CellPlace → List ℕ → Option (List (List ℕ))
 last_cell at.Start cell = Some (cell ∷ [])
 last_cell at.Bare cell = Some (cell ∷ [])
 last_cell at.Quoted cell = None
 last_cell at.AfterQuote cell = Some (cell ∷ [])
 
 -- the cells of the rest of a line, from a place in a cell, of which these bytes were read
-unfoldable pub cells_from : ℕ → Place → List ℕ → List ℕ → Option (List (List ℕ))
+unfoldable pub cells_from : ℕ → CellPlace → List ℕ → List ℕ → Option (List (List ℕ))
 cells_from separator place cell [] = last_cell place cell
-cells_from separator place cell (byte ∷ rest) = elim (step_of separator place byte) [
+cells_from separator place cell (byte ∷ rest) = elim (effect_of separator place byte) [
   | does.Joins next ↦ cells_from separator next (cell ++ byte ∷ []) rest
   | does.Opens next ↦ cells_from separator next cell rest
   | does.EndsCell ↦ with_cell cell (cells_from separator at.Start [] rest)

@@ -46,8 +46,9 @@ pub record AddsLot (section lot hundredths number : ℕ) (old new : LotEntries) 
   pub count : new.count ≡ old.count + 1
 
 -- the section or the township has as many lots as it can have
-abbrev pub AreFull : ℕ → LotEntries → Type 0
-AreFull section entries = (SECTION_LOTS_MOST ≤ lots_in entries section) ⊎ (TOWNSHIP_LOTS_MOST ≤ entries.count)
+abbrev pub IsFullOfLots : ℕ → LotEntries → Type 0
+IsFullOfLots section entries =
+    (SECTION_LOTS_MOST ≤ lots_in entries section) ⊎ (TOWNSHIP_LOTS_MOST ≤ entries.count)
 
 -- what a record is for, as a mark
 abbrev pub IsForMark : Fields → ℕ → ℕ → Type 0
@@ -107,7 +108,7 @@ IsLandNotEntered fields number marks entries (fault.TooMany at) =
     (at ≡ number) × (length fields ≡ LAND_FIELDS)
     × ((section : ℕ) × (lot : ℕ) × (now : List (List ℕ)) × IsForLot fields section lot
     × IsForLand fields section lot entries × IsLandPainted section (field fields 3) lot marks now
-    × AreFull section entries)
+    × IsFullOfLots section entries)
 IsLandNotEntered fields number marks entries fault.Memory = ⊤
 IsLandNotEntered fields number marks entries other = ⊥
 
@@ -180,8 +181,8 @@ pub record AreLandEntered (rows : List Fields) (count : ℕ) (marks : List (List
   pub all_counted : entered_count entries.figures ≡ entries.count
 
 -- no place has a mark
-abbrev pub AreClear : List (List ℕ) → Type 0
-AreClear marks = (section column row : ℕ) → mark_at (marks_of marks section) column row ≡ 0
+abbrev pub AreUnmarked : List (List ℕ) → Type 0
+AreUnmarked marks = (section column row : ℕ) → mark_at (marks_of marks section) column row ≡ 0
 
 -- this many of the rows were entered, and the next one is refused
 pub record IsLandRefusedNext (rows : List Fields) (fault : LotsFault) : Type 0 where

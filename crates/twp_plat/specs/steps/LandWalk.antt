@@ -10,18 +10,18 @@ use Rattle.twp_grammar.specs.Tokens.{Token}
 use Rattle.twp_grammar.specs.Grammar.{Class, class_of, north_south, east_west, corner, half, quarter, of}
 use Rattle.twp_grammar.specs.Grammar.{the, comma, and}
 use Rattle.twp_grammar.specs.Items.{north_or_south, east_or_west}
-use Rattle.twp_plat.specs.declared.lots.land_text.Reached.{Reached}
-use Rattle.twp_plat.specs.declared.lots.land_text.Reached.TheVariants as past
+use Rattle.twp_plat.specs.declared.lots.land_text.LandState.{LandState}
+use Rattle.twp_plat.specs.declared.lots.land_text.LandState.TheVariants as past
 
 -- after the first token of a step
-abbrev pub step_begun : Class → Option Reached
+abbrev pub step_begun : Class → Option LandState
 step_begun north_south = Some past.Side
 step_begun east_west = Some past.Side
 step_begun corner = Some past.Corner
 step_begun _ = None
 
 -- the state after one more token
-abbrev pub next : Reached → Class → Option Reached
+abbrev pub next : LandState → Class → Option LandState
 next past.Comma and = Some past.Part
 next past.Side half = Some past.Step
 next past.Side _ = None
@@ -34,7 +34,7 @@ next past.Of the = Some past.OfThe
 next _ class = step_begun class
 
 -- a part ends before this token
-abbrev pub ends_part : Reached → Class → Bool
+abbrev pub ends_part : LandState → Class → Bool
 ends_part past.Step comma = true
 ends_part past.Step and = true
 ends_part _ _ = false
@@ -52,16 +52,16 @@ with_step None steps = steps
 with_step (Some step) steps = steps ++ step ∷ []
 
 -- the parts so far, and the steps of the one that has begun, after one more token
-abbrev pub parts_after : Reached → Kind → List (List Step) → List Step → List (List Step)
+abbrev pub parts_after : LandState → Kind → List (List Step) → List Step → List (List Step)
 parts_after reached kind parts steps =
     if ends_part reached (class_of kind) then parts ++ steps ∷ [] else parts
 
-abbrev pub steps_after : Reached → Kind → List Step → List Step
+abbrev pub steps_after : LandState → Kind → List Step → List Step
 steps_after reached kind steps =
     if ends_part reached (class_of kind) then [] else with_step (step_of kind) steps
 
 -- the parts when all tokens are read, if they are a sequence of parts
-abbrev pub walk : Option Reached → List (List Step) → List Step → List Token → Option (List (List Step))
+abbrev pub walk : Option LandState → List (List Step) → List Step → List Token → Option (List (List Step))
 walk None parts steps tokens = None
 walk (Some past.Step) parts steps [] = Some (parts ++ steps ∷ [])
 walk (Some _) parts steps [] = None

@@ -31,8 +31,8 @@ abbrev pub IsLotMark : ℕ → Type 0
 IsLotMark mark = (0 < mark) × (mark < NO_LAND)
 
 -- the mark is that of a lot, and the number that of its record
-abbrev pub IsRecordOf : List (List ℕ) → ℕ → ℕ → ℕ → Type 0
-IsRecordOf records section mark number = IsLotMark mark × (entered_for records section mark ≡ number)
+abbrev pub IsRecordOfMark : List (List ℕ) → ℕ → ℕ → ℕ → Type 0
+IsRecordOfMark records section mark number = IsLotMark mark × (entered_for records section mark ≡ number)
 
 -- a place of the position has no mark
 abbrev pub HasFreePlace : List (List ℕ) → ℕ → ℕ → Type 0
@@ -47,7 +47,7 @@ HasMarkedPlace marks section position =
 -- a place of the position is in the lot whose record has this number
 abbrev pub IsLotRecordAt : List (List ℕ) → List (List ℕ) → ℕ → ℕ → ℕ → Type 0
 IsLotRecordAt marks records section position number = (within : ℕ) × (within < PLACES_OF_POSITION)
-    × IsRecordOf records section (mark_within marks section position within) number
+    × IsRecordOfMark records section (mark_within marks section position within) number
 
 -- the same, and another place has no mark
 abbrev pub IsUnfilledAt : List (List ℕ) → List (List ℕ) → ℕ → ℕ → ℕ → Type 0

@@ -2,7 +2,7 @@
 ghost use Rattle.std.specs.Prelude.{◌≡◌, ◌≢◌, ◌-◌, ◌≤◌, ◌<◌, ◌↔◌, ℕ, IsTrue, false, length, set};
 ghost use Rattle.twp_grid.specs.Lands.{LOT_NUMBER_MOST};
 ghost use Rattle.twp_plat.specs.LotTables.{entered_for};
-ghost use Rattle.twp_plat.specs.steps.LandEntries.{OthersStay, AreNoEntries, AddsLot, AreFull, lots_in};
+ghost use Rattle.twp_plat.specs.steps.LandEntries.{OthersStay, AreNoEntries, AddsLot, IsFullOfLots, lots_in};
 
 use crate::lots::returned::LOT_MOST;
 use twp_grid::{SECTIONS, Section};
@@ -66,7 +66,7 @@ impl LotEntries {
         requires least { 1 ≤ lot }
         requires most { lot ≤ LOT_NUMBER_MOST }
         ensures added { IsTrue result → AddsLot section lot hundredths number self.old self.new }
-        ensures full { result ≡ false → AreFull section self.old }
+        ensures full { result ≡ false → IsFullOfLots section self.old }
     {
         let index = usize::from(section.number() - 1);
         if self.counts[index] >= SECTION_LOTS_MOST || self.count >= TOWNSHIP_LOTS_MOST {

@@ -7,7 +7,7 @@ ghost use Rattle.twp_plat.specs.steps.LandEntries.{IsForMark};
 
 use csv::ByteRecord;
 use twp_grid::Section;
-use twp_notes::{field, is_text, section_of, short_number};
+use twp_notes::{field, is_exactly, section_of, short_number};
 
 /// The number of fields in a record with land.
 pub const LAND_FIELDS: usize = 4;
@@ -28,12 +28,12 @@ pub(crate) struct MarkedLand {
 pub fn is_land_heading(row: &ByteRecord) -> bool
     ensures { IsTrue result ↔ (fields_of row.now ≡ land_heading) }
 {
-    if row.len() != LAND_FIELDS || !is_text(field(row, 0), "section") {
+    if row.len() != LAND_FIELDS || !is_exactly(field(row, 0), "section") {
         return false;
     }
-    is_text(field(row, 1), "lot")
-        && is_text(field(row, 2), "acres")
-        && is_text(field(row, 3), "land")
+    is_exactly(field(row, 1), "lot")
+        && is_exactly(field(row, 2), "acres")
+        && is_exactly(field(row, 3), "land")
 }
 
 /// What a record is for.

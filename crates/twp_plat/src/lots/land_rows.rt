@@ -1,7 +1,7 @@
 //! The records of a lot table with land, entered one after another.
 ghost use Rattle.std.specs.Prelude.{◌≡◌, ◌+◌, ◌^◌, ◌<◌, ℕ, length, IfOk, IfErr, OnOk};
 ghost use Rattle.twp_notes.specs.Records.{records_left, IsBetweenRecords};
-ghost use Rattle.twp_plat.specs.steps.LandEntries.{AreClear, AreNoEntries, AreLandEntered};
+ghost use Rattle.twp_plat.specs.steps.LandEntries.{AreUnmarked, AreNoEntries, AreLandEntered};
 ghost use Rattle.twp_plat.specs.steps.LandEntries.{IsLandRefusedAfter};
 
 use crate::lots::fault::LotsFault;
@@ -26,7 +26,7 @@ pub(crate) fn enter_rows(
 ) -> Result<u32, LotsFault>
     requires reading { IsBetweenRecords records.old }
     requires few { length (records_left records.old) < 2 ^ 17 }
-    requires clear { AreClear marks.old.sections }
+    requires clear { AreUnmarked marks.old.sections }
     requires empty { AreNoEntries lots.old }
     ensures entered { OnOk result (AreLandEntered (records_left records.old)
         (length (records_left records.old)) marks.new.sections lots.new) }

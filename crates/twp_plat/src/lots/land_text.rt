@@ -6,14 +6,13 @@ ghost use Rattle.twp_plat.specs.steps.LandPaints.{IsPainting, IsLandPainted, Are
 ghost use Rattle.twp_plat.specs.steps.LandWalk.{next, ends_part, step_begun, step_of};
 
 use std::alloc::{AllocError, Global};
-use twp_grammar::{Kind, Step, Steps, first_token};
+use twp_grammar::{Kind, Step, Steps, chain_block, first_token};
 use twp_grid::{EastWest, NorthSouth, Section, Side};
 use twp_land::LotMarks;
-use twp_resolve::chain_block;
 
-/// How far the tokens so far are into a sequence of aliquot parts, named after the last token.
+/// How far the tokens of a record's land are into a sequence of aliquot parts, named after the last token.
 #[derive(Clone, Copy)]
-pub enum Reached {
+pub enum LandState {
     /// Before the first part, or after `and`: a part must follow.
     Part,
     /// After a comma, which `and` may follow.
@@ -65,34 +64,34 @@ impl From<AllocError> for LandFault {
     }
 }
 
-impl Reached {
+impl LandState {
     /// The state after one more token. `None` if no sequence of aliquot parts begins with the tokens
     /// so far and this one.
-    fn after(self, kind: Kind) -> Option<Reached>
+    fn after(self, kind: Kind) -> Option<LandState>
         ensures { result ≡ next self (class_of kind) }
     {
         match self {
-            Reached::Part | Reached::OfThe => step_begun(kind),
-            Reached::Comma => match kind {
-                Kind::And => Some(Reached::Part),
+            LandState::Part | LandState::OfThe => step_begun(kind),
+            LandState::Comma => match kind {
+                Kind::And => Some(LandState::Part),
                 _ => step_begun(kind),
             },
-            Reached::Side => match kind {
-                Kind::Half => Some(Reached::Step),
+            LandState::Side => match kind {
+                Kind::Half => Some(LandState::Step),
                 _ => None,
             },
-            Reached::Corner => match kind {
-                Kind::Quarter => Some(Reached::Step),
+            LandState::Corner => match kind {
+                Kind::Quarter => Some(LandState::Step),
                 _ => None,
             },
-            Reached::Step => match kind {
-                Kind::Comma => Some(Reached::Comma),
-                Kind::And => Some(Reached::Part),
-                Kind::Of => Some(Reached::Of),
+            LandState::Step => match kind {
+                Kind::Comma => Some(LandState::Comma),
+                Kind::And => Some(LandState::Part),
+                Kind::Of => Some(LandState::Of),
                 _ => step_begun(kind),
             },
-            Reached::Of => match kind {
-                Kind::The => Some(Reached::OfThe),
+            LandState::Of => match kind {
+                Kind::The => Some(LandState::OfThe),
                 _ => step_begun(kind),
             },
         }
@@ -103,19 +102,19 @@ impl Reached {
         ensures { result ≡ ends_part self (class_of kind) }
     {
         match self {
-            Reached::Step => matches!(kind, Kind::Comma | Kind::And),
+            LandState::Step => matches!(kind, Kind::Comma | Kind::And),
             _ => false,
         }
     }
 }
 
 /// The state after the first token of a step. `None` for other tokens.
-fn step_begun(kind: Kind) -> Option<Reached>
+fn step_begun(kind: Kind) -> Option<LandState>
     ensures { result ≡ step_begun (class_of kind) }
 {
     match kind {
-        Kind::NorthSouth(_) | Kind::EastWest(_) => Some(Reached::Side),
-        Kind::Corner(_) => Some(Reached::Corner),
+        Kind::NorthSouth(_) | Kind::EastWest(_) => Some(LandState::Side),
+        Kind::Corner(_) => Some(LandState::Corner),
         _ => None,
     }
 }
@@ -148,7 +147,7 @@ pub(crate) fn paint_land(
         (IsLandPainted section text.now mark marks.old.sections marks.new.sections) }
     ensures fault { IfErr result (AreUnpainted section text.now marks.old.sections) }
 {
-    let mut reached = Reached::Part;
+    let mut reached = LandState::Part;
     let mut painting = Painting::Painted;
     let mut steps = Steps::none(alloc);
     let mut at = 0;
@@ -165,7 +164,7 @@ pub(crate) fn paint_land(
         reached = after;
         at = token.at + token.text.len();
     }
-    let Reached::Step = reached else {
+    let LandState::Step = reached else {
         return Err(LandFault::NoParts);
     };
     match paint_part(painting, marks, section, mark, &steps) {

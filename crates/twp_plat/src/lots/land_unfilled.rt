@@ -1,6 +1,7 @@
 //! Quarter-quarters that a lot lies in and that also contain land in no part of a record.
 ghost use Rattle.std.specs.Prelude.{◌≡◌, ◌≤◌, ◌<◌, ◌↔◌, IsTrue};
-ghost use Rattle.twp_plat.specs.steps.Unfilled.{IsLeast, earlier_of, mark_within, IsRecordOf, HasFreePlace};
+ghost use Rattle.twp_plat.specs.steps.Unfilled.{IsLeast, earlier_of, mark_within, IsRecordOfMark};
+ghost use Rattle.twp_plat.specs.steps.Unfilled.{HasFreePlace};
 ghost use Rattle.twp_plat.specs.steps.Unfilled.{HasMarkedPlace};
 ghost use Rattle.twp_plat.specs.steps.Unfilled.{IsLotRecordAt, IsUnfilledAt, IsUnfilledIn, IsUnfilledRecord};
 ghost use Rattle.twp_plat.specs.steps.Unfilled.{AreMarksOfLots};
@@ -109,7 +110,7 @@ fn first_lot_at(
 
 /// The number of the record of the lot with a mark, if it is that of a lot.
 fn record_of(lots: &LotEntries, section: Section, mark: u8) -> Option<u32>
-    ensures { IsLeast result (IsRecordOf lots.now.records section mark) }
+    ensures { IsLeast result (IsRecordOfMark lots.now.records section mark) }
 {
     if mark == 0 || mark >= NO_LAND {
         return None;

@@ -8,7 +8,7 @@ ghost use Rattle.twp_plat.specs.LotsFaults.{NamesNoLot};
 use csv::ByteRecord;
 use twp_grid::{Section, lot_count};
 use twp_measure::{is_numeral, numeral_value};
-use twp_notes::{field, is_text, section_of, short_number};
+use twp_notes::{field, is_exactly, section_of, short_number};
 
 /// The number of fields in the record of a lot.
 pub const LOT_FIELDS: usize = 3;
@@ -28,10 +28,10 @@ pub(crate) struct NamedLot {
 pub fn is_heading(row: &ByteRecord) -> bool
     ensures { IsTrue result ↔ (fields_of row.now ≡ lots_heading) }
 {
-    if row.len() != LOT_FIELDS || !is_text(field(row, 0), "section") {
+    if row.len() != LOT_FIELDS || !is_exactly(field(row, 0), "section") {
         return false;
     }
-    is_text(field(row, 1), "lot") && is_text(field(row, 2), "acres")
+    is_exactly(field(row, 1), "lot") && is_exactly(field(row, 2), "acres")
 }
 
 /// The lot that a record names.

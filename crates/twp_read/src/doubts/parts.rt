@@ -114,8 +114,8 @@ fn after_steps<'a, 'b>(tokens: &'b [Token<'a>]) -> &'b [Token<'a>]
     left
 }
 
-/// The tokens after the part that they begin with.
-fn after_part<'a, 'b>(tokens: &'b [Token<'a>]) -> &'b [Token<'a>]
+/// The tokens after the aliquot part that they begin with.
+pub fn after_part<'a, 'b>(tokens: &'b [Token<'a>]) -> &'b [Token<'a>]
     ensures { map seen result.now ≡ after_part (map seen tokens.now) }
 {
     let mut left = tokens;
@@ -129,14 +129,14 @@ fn after_part<'a, 'b>(tokens: &'b [Token<'a>]) -> &'b [Token<'a>]
 }
 
 /// Whether a token is letters or a fraction of a step, `of`, or `the`.
-fn is_of_part(kind: Kind) -> bool
+pub fn is_of_part(kind: Kind) -> bool
     ensures { result ≡ is_of_part kind }
 {
     is_of_step(kind) || matches!(kind, Kind::Of | Kind::The)
 }
 
 /// Whether a token is letters or a fraction of a step.
-fn is_of_step(kind: Kind) -> bool
+pub fn is_of_step(kind: Kind) -> bool
     ensures { result ≡ is_of_step kind }
 {
     begins_step(kind) || matches!(kind, Kind::Half | Kind::Quarter)

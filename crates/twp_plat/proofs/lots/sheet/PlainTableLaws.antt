@@ -8,7 +8,7 @@ use Rattle.twp_plat.specs.PlainTables.{next_line, first_line, unclosed_after, Is
 use Rattle.twp_plat.specs.PlainTables.{has_byte_order_mark, byte_order_mark_of, after_byte_order_mark}
 use Rattle.twp_plat.specs.PlainTables.{row, row_by_commas, no_row, within_a_cell, cell_text, row_text, quoted}
 use Rattle.twp_plat.specs.PlainTables.{needs_quotes, trimmed, with_acres}
-use Rattle.twp_plat.specs.PlainTableLaws.{IsPlainRow, IsLineOf, IsBeforeLine, none, lines}
+use Rattle.twp_plat.specs.PlainTableLaws.{IsPlainRow, IsLineOfText, IsBeforeLine, none, lines}
 use Rattle.twp_plat.specs.PlainTableLaws.{none_more, more_lines}
 use Rattle.twp_plat.specs.steps.CellCuts.{plain_from}
 use Rattle.twp_plat.proofs.lots.sheet.PlainFacts.{CanSeparate, can_separate, one_line}
@@ -126,7 +126,7 @@ plain_of_plain text plain is =
 
 -- the first line is one of the lines, and so are those of the text after a line end
 first_is : (separator : ℕ) (unclosed : Bool) (text made : List ℕ)
-    → ArePlainLines separator unclosed text made → IsLineOf text (first_line text)
+    → ArePlainLines separator unclosed text made → IsLineOfText text (first_line text)
 first_is separator _ _ _ (last_line unclosed line plain is is_plain) =
     rw (only_first line is) (record {
       before = [];
@@ -155,7 +155,7 @@ starts_by line end before ends (lines front byte is_end is) =
     (rw is (sym (append_assoc line (end ∷ front) (byte ∷ []))))
 
 later_is : (line : List ℕ) (end : ℕ) (rest found : List ℕ) → is_line_end end ≡ true
-    → IsLineOf rest found → IsLineOf (line ++ end ∷ rest) found
+    → IsLineOfText rest found → IsLineOfText (line ++ end ∷ rest) found
 later_is line end rest found ends is = record {
   before = line ++ end ∷ is.before;
   after = is.after;
@@ -172,7 +172,7 @@ line_stays unclosed line plain is is_plain =
     ∙ sym (one_line comma unclosed line line refl (row_stays unclosed line is))
 
 lines_stay : (unclosed : Bool) (text made : List ℕ) → ArePlainLines comma unclosed text made
-    → ((line : List ℕ) → IsLineOf text line → IsPlainRow line) → made ≡ text
+    → ((line : List ℕ) → IsLineOfText text line → IsPlainRow line) → made ≡ text
 lines_stay _ _ _ (last_line unclosed line plain is is_plain) all =
     let first : IsPlainRow (first_line line) =
     all (first_line line) (first_is comma unclosed line plain (last_line unclosed line plain is is_plain)) in
@@ -192,7 +192,7 @@ lines_stay _ _ _
     ∙ sym text_is
 
 pub plain_tables_stay : (text : List ℕ)
-    → ((line : List ℕ) → IsLineOf (after_byte_order_mark text) line → IsPlainRow line)
+    → ((line : List ℕ) → IsLineOfText (after_byte_order_mark text) line → IsPlainRow line)
     → IsPlainTable text text
 plain_tables_stay text all =
     let rest : List ℕ = after_byte_order_mark text in

@@ -6,7 +6,7 @@ use Rattle.std.proofs.lemmas.List.{append-nil}
 use Rattle.twp_plat.specs.PlainTables.{quotation_mark, with_quotes_doubled, quoted, is_bare, IsCell, bare}
 use Rattle.twp_plat.specs.PlainTables.{within_quotes, IsRow, IsNoRow}
 use Rattle.twp_plat.specs.steps.CellCuts.{with_cell, cells_from, cells_of}
-use Rattle.twp_plat.specs.declared.lots.sheet.cells.Place.TheVariants as at
+use Rattle.twp_plat.specs.declared.lots.sheet.cells.CellPlace.TheVariants as at
 use Rattle.twp_plat.proofs.lots.sheet.RowReading.{row_of_cells}
 
 -- the first byte of a bare text, and the others

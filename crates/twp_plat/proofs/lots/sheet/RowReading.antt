@@ -8,14 +8,14 @@ use Rattle.std.proofs.lemmas.List.Concat.{flat_map-append}
 use Rattle.std.proofs.lemmas.List.Folds.{list_any-append}
 use Rattle.twp_plat.specs.PlainTables.{quotation_mark, with_quotes_doubled, quoted, is_bare, IsCell, bare}
 use Rattle.twp_plat.specs.PlainTables.{within_quotes, IsRow}
-use Rattle.twp_plat.specs.steps.CellCuts.{step_by, step_of, last_cell, with_cell, cells_from, cells_of}
-use Rattle.twp_plat.specs.declared.lots.sheet.cells.Place.{Place}
-use Rattle.twp_plat.specs.declared.lots.sheet.cells.Place.TheVariants as at
-use Rattle.twp_plat.specs.declared.lots.sheet.cells.Step.{Step}
-use Rattle.twp_plat.specs.declared.lots.sheet.cells.Step.TheVariants as does
+use Rattle.twp_plat.specs.steps.CellCuts.{effect_by, effect_of, last_cell, with_cell, cells_from, cells_of}
+use Rattle.twp_plat.specs.declared.lots.sheet.cells.CellPlace.{CellPlace}
+use Rattle.twp_plat.specs.declared.lots.sheet.cells.CellPlace.TheVariants as at
+use Rattle.twp_plat.specs.declared.lots.sheet.cells.Effect.{Effect}
+use Rattle.twp_plat.specs.declared.lots.sheet.cells.Effect.TheVariants as does
 
 -- the text of a cell up to a place, of which these bytes were read
-abbrev IsRead : ℕ → Place → List ℕ → List ℕ → Type 0
+abbrev IsRead : ℕ → CellPlace → List ℕ → List ℕ → Type 0
 IsRead separator at.Start cell text = (cell ≡ []) × (text ≡ [])
 IsRead separator at.Bare cell text = (is_bare separator text ≡ true) × (cell ≡ text)
 IsRead separator at.Quoted cell text = text ≡ quotation_mark ∷ with_quotes_doubled cell
@@ -48,8 +48,8 @@ doubled_quote cell byte is =
     ∙ sym (append_assoc (with_quotes_doubled cell) (quotation_mark ∷ []) (byte ∷ []))
 
 -- what a byte leaves that joins the cell, and one that opens or closes quotation marks
-joined : (separator byte : ℕ) (cell text : List ℕ) (next : Place) (place : Place) (quotes ends : Bool)
-    → IsRead separator place cell text → step_by place quotes ends ≡ does.Joins next
+joined : (separator byte : ℕ) (cell text : List ℕ) (next : CellPlace) (place : CellPlace) (quotes ends : Bool)
+    → IsRead separator place cell text → effect_by place quotes ends ≡ does.Joins next
     → (byte == quotation_mark) ≡ quotes → (byte == separator) ≡ ends
     → IsRead separator next (cell ++ byte ∷ []) (text ++ byte ∷ [])
 joined separator byte cell text next at.Start false false read is quote end =
@@ -72,8 +72,8 @@ joined separator byte cell text next at.Quoted true ends read is quote end = cc
 joined separator byte cell text next at.AfterQuote false true read is quote end = cc
 joined separator byte cell text next at.AfterQuote false false read is quote end = cc
 
-opened : (separator byte : ℕ) (cell text : List ℕ) (next : Place) (place : Place) (quotes ends : Bool)
-    → IsRead separator place cell text → step_by place quotes ends ≡ does.Opens next
+opened : (separator byte : ℕ) (cell text : List ℕ) (next : CellPlace) (place : CellPlace) (quotes ends : Bool)
+    → IsRead separator place cell text → effect_by place quotes ends ≡ does.Opens next
     → (byte == quotation_mark) ≡ quotes
     → IsRead separator next cell (text ++ byte ∷ [])
 opened separator byte cell text next at.Start true ends read is quote =
@@ -93,8 +93,8 @@ opened separator byte cell text next at.AfterQuote false true read is quote = cc
 opened separator byte cell text next at.AfterQuote false false read is quote = cc
 
 -- the cell before a separator
-ended : (separator : ℕ) (cell text : List ℕ) (place : Place) (quotes ends : Bool)
-    → IsRead separator place cell text → step_by place quotes ends ≡ does.EndsCell
+ended : (separator : ℕ) (cell text : List ℕ) (place : CellPlace) (quotes ends : Bool)
+    → IsRead separator place cell text → effect_by place quotes ends ≡ does.EndsCell
     → IsCell separator cell text × (ends ≡ true)
 ended separator cell text at.Start false true read is = (bare (rw read.1 refl) (read.0 ∙ sym read.1), refl)
 ended separator cell text at.Bare false true read is = (bare read.0 read.1, refl)
@@ -109,7 +109,7 @@ ended separator cell text at.AfterQuote true ends read is = cc
 ended separator cell text at.AfterQuote false false read is = cc
 
 -- the last cell of a line
-last : (separator : ℕ) (place : Place) (cell text : List ℕ) (cells : List (List ℕ))
+last : (separator : ℕ) (place : CellPlace) (cell text : List ℕ) (cells : List (List ℕ))
     → IsRead separator place cell text → last_cell place cell ≡ Some cells → IsRow separator cells text
 last separator at.Start cell text cells read is =
     let e : cell ∷ [] ≡ cells = cc in rw (← e) (bare (rw read.1 refl) (read.0 ∙ sym read.1))
@@ -135,33 +135,33 @@ row_more separator cell text (next ∷ more) rest is row = (text, rest, is, refl
 
 -- what one byte leaves to be read
 read_step : (separator byte : ℕ) (rest : List ℕ)
-    → ((place : Place) (cell text : List ℕ) (cells : List (List ℕ)) → IsRead separator place cell text
+    → ((place : CellPlace) (cell text : List ℕ) (cells : List (List ℕ)) → IsRead separator place cell text
     → cells_from separator place cell rest ≡ Some cells → IsRow separator cells (text ++ rest))
-    → (place : Place) (cell text : List ℕ) (cells : List (List ℕ)) → IsRead separator place cell text
-    → (step : Step) → step_of separator place byte ≡ step
-    → elim step [
+    → (place : CellPlace) (cell text : List ℕ) (cells : List (List ℕ)) → IsRead separator place cell text
+    → (effect : Effect) → effect_of separator place byte ≡ effect
+    → elim effect [
       | does.Joins next ↦ cells_from separator next (cell ++ byte ∷ []) rest
       | does.Opens next ↦ cells_from separator next cell rest
       | does.EndsCell ↦ with_cell cell (cells_from separator at.Start [] rest)
       | does.Fails ↦ None
     ] ≡ Some cells
     → IsRow separator cells (text ++ byte ∷ rest)
-read_step separator byte rest later place cell text cells read (does.Joins next) step is =
+read_step separator byte rest later place cell text cells read (does.Joins next) effect is =
     rw (← append_assoc text (byte ∷ []) rest)
     (later next (cell ++ byte ∷ []) (text ++ byte ∷ []) cells
-    (joined separator byte cell text next place _ _ read step refl refl) is)
-read_step separator byte rest later place cell text cells read (does.Opens next) step is =
+    (joined separator byte cell text next place _ _ read effect refl refl) is)
+read_step separator byte rest later place cell text cells read (does.Opens next) effect is =
     rw (← append_assoc text (byte ∷ []) rest)
     (later next cell (text ++ byte ∷ []) cells
-    (opened separator byte cell text next place _ _ read step refl) is)
-read_step separator byte rest later place cell text cells read does.EndsCell step is =
+    (opened separator byte cell text next place _ _ read effect refl) is)
+read_step separator byte rest later place cell text cells read does.EndsCell effect is =
     let found = rest_of cell _ cells is in
-    let end = ended separator cell text place _ _ read step in
+    let end = ended separator cell text place _ _ read effect in
     let row : IsRow separator found.0 rest = later at.Start [] [] found.0 (refl, refl) found.1 in
     rw (eqb-true byte separator end.1, found.2) (row_more separator cell text found.0 rest end.0 row)
-read_step separator byte rest later place cell text cells read does.Fails step is = cc
+read_step separator byte rest later place cell text cells read does.Fails effect is = cc
 
-read_row : (separator : ℕ) (rest : List ℕ) (place : Place) (cell text : List ℕ)
+read_row : (separator : ℕ) (rest : List ℕ) (place : CellPlace) (cell text : List ℕ)
     (cells : List (List ℕ)) → IsRead separator place cell text
     → cells_from separator place cell rest ≡ Some cells → IsRow separator cells (text ++ rest)
 unfolding cells_from
@@ -169,7 +169,7 @@ read_row separator [] place cell text cells read is =
     rw (append-nil text) (last separator place cell text cells read is)
 read_row separator (byte ∷ rest) place cell text cells read is =
     read_step separator byte rest (read_row separator rest) place cell text cells read
-    (step_of separator place byte) refl is
+    (effect_of separator place byte) refl is
 
 pub row_of_cells : (separator : ℕ) (line : List ℕ) (cells : List (List ℕ))
     → cells_of separator line ≡ Some cells → IsRow separator cells line

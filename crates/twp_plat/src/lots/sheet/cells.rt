@@ -1,7 +1,7 @@
 //! The cells of a line.
 ghost use Rattle.std.specs.Prelude.{◌≡◌, ◌==◌, IfOk, option_map};
 ghost use Rattle.csv.specs.Records.{fields_of};
-ghost use Rattle.twp_plat.specs.steps.CellCuts.{step_of, bare_step, cells_of};
+ghost use Rattle.twp_plat.specs.steps.CellCuts.{effect_of, bare_effect, cells_of};
 
 use csv::ByteRecord;
 use std::alloc::{AllocError, Global};
@@ -20,7 +20,7 @@ pub const QUOTATION_MARK: u8 = b'"';
 
 /// The place of a byte in its cell.
 #[derive(Clone, Copy)]
-pub enum Place {
+pub enum CellPlace {
     /// At the cell's first byte.
     Start,
     /// In a cell without quotation marks.
@@ -33,63 +33,63 @@ pub enum Place {
 
 /// What a byte does to the cell at hand.
 #[derive(Clone, Copy)]
-pub enum Step {
+pub enum Effect {
     /// It is a byte of the cell. The next byte is at this place.
-    Joins(Place),
+    Joins(CellPlace),
     /// It is a quotation mark, and no byte of the cell.
-    Opens(Place),
+    Opens(CellPlace),
     /// It separates the cell from the next.
     EndsCell,
     /// It is a quotation mark where none may be, or is after one that ends the cell.
     Fails,
 }
 
-/// The step of a byte.
-fn step_of(separator: u8, place: Place, byte: u8) -> Step
-    ensures { result ≡ step_of separator place byte }
+/// What a byte does.
+fn effect_of(separator: u8, place: CellPlace, byte: u8) -> Effect
+    ensures { result ≡ effect_of separator place byte }
 {
     match place {
-        Place::Start => {
+        CellPlace::Start => {
             if byte == QUOTATION_MARK {
-                Step::Opens(Place::Quoted)
+                Effect::Opens(CellPlace::Quoted)
             } else {
-                bare_step(separator, byte)
+                bare_effect(separator, byte)
             }
         }
-        Place::Bare => {
+        CellPlace::Bare => {
             if byte == QUOTATION_MARK {
-                Step::Fails
+                Effect::Fails
             } else {
-                bare_step(separator, byte)
+                bare_effect(separator, byte)
             }
         }
-        Place::Quoted => {
+        CellPlace::Quoted => {
             if byte == QUOTATION_MARK {
-                Step::Opens(Place::AfterQuote)
+                Effect::Opens(CellPlace::AfterQuote)
             } else {
-                Step::Joins(Place::Quoted)
+                Effect::Joins(CellPlace::Quoted)
             }
         }
-        Place::AfterQuote => {
+        CellPlace::AfterQuote => {
             if byte == QUOTATION_MARK {
-                Step::Joins(Place::Quoted)
+                Effect::Joins(CellPlace::Quoted)
             } else if byte == separator {
-                Step::EndsCell
+                Effect::EndsCell
             } else {
-                Step::Fails
+                Effect::Fails
             }
         }
     }
 }
 
-/// The step of a byte that is not a quotation mark, outside of quotation marks.
-fn bare_step(separator: u8, byte: u8) -> Step
-    ensures { result ≡ bare_step (byte == separator) }
+/// What a byte that is not a quotation mark does, outside of quotation marks.
+fn bare_effect(separator: u8, byte: u8) -> Effect
+    ensures { result ≡ bare_effect (byte == separator) }
 {
     if byte == separator {
-        Step::EndsCell
+        Effect::EndsCell
     } else {
-        Step::Joins(Place::Bare)
+        Effect::Joins(CellPlace::Bare)
     }
 }
 
@@ -99,27 +99,27 @@ pub fn cells_of(alloc: Global, separator: u8, line: &[u8]) -> Result<Option<Byte
 {
     let mut cells = ByteRecord::new(alloc);
     let mut cell = Vec::new(alloc);
-    let mut place = Place::Start;
+    let mut place = CellPlace::Start;
     for byte in line {
-        match step_of(separator, place, *byte) {
-            Step::Joins(next) => {
+        match effect_of(separator, place, *byte) {
+            Effect::Joins(next) => {
                 cell.push(*byte)?;
                 place = next;
             }
-            Step::Opens(next) => {
+            Effect::Opens(next) => {
                 place = next;
             }
-            Step::EndsCell => {
+            Effect::EndsCell => {
                 cells.push_field(cell.as_slice())?;
                 cell.clear();
-                place = Place::Start;
+                place = CellPlace::Start;
             }
-            Step::Fails => {
+            Effect::Fails => {
                 return Ok(None);
             }
         }
     }
-    if let Place::Quoted = place {
+    if let CellPlace::Quoted = place {
         return Ok(None);
     }
     cells.push_field(cell.as_slice())?;

@@ -7,20 +7,20 @@ use Rattle.twp_plat.proofs.lots.sheet.cells.cells_of.Goals.{in-EndsCell+in_ok-pu
 
 pub returns-in-Fails : goal.returns-in-Fails
 returns-in-Fails c =
-    none_by_failing _ _ _ _ _ _ _ c.loop-byte-test.true (sym c.step_of.ensures ∙ c.in-Fails.is)
+    none_by_failing _ _ _ _ _ _ _ c.loop-byte-test.true (sym c.effect_of.ensures ∙ c.in-Fails.is)
     c.loop-byte.invariant.cells
 
 pub loop-byte-preserved : goal.loop-byte-preserved
-loop-byte-preserved c = elim c.match-step_of.branch [
+loop-byte-preserved c = elim c.match-effect_of.branch [
   | in-Joins+in_ok-push-in-Joins w ↦ record {
     cells = rw (w.cells-is, w.place-is, w.cell-is, w.in_ok-push-in-Joins.ensures.items)
-        (kept_by_joining _ _ _ _ _ _ _ _ c.loop-byte-test.true (sym c.step_of.ensures ∙ w.in-Joins.is)
+        (kept_by_joining _ _ _ _ _ _ _ _ c.loop-byte-test.true (sym c.effect_of.ensures ∙ w.in-Joins.is)
         c.loop-byte.invariant.cells);
     partial = rw w.cells-is c.loop-byte.invariant.partial;
   }
   | in-Opens w ↦ record {
     cells = rw (w.cells-is, w.place-is, w.cell-is)
-        (kept_by_opening _ _ _ _ _ _ _ _ c.loop-byte-test.true (sym c.step_of.ensures ∙ w.in-Opens.is)
+        (kept_by_opening _ _ _ _ _ _ _ _ c.loop-byte-test.true (sym c.effect_of.ensures ∙ w.in-Opens.is)
         c.loop-byte.invariant.cells);
     partial = rw w.cells-is c.loop-byte.invariant.partial;
   }
@@ -34,7 +34,7 @@ loop-byte-preserved c = elim c.match-step_of.branch [
       c.loop-byte.invariant.partial,
       w.as_slice.ensures.value,
     )
-        (kept_by_ending _ _ _ _ _ _ _ c.loop-byte-test.true (sym c.step_of.ensures ∙ w.in-EndsCell.is)
+        (kept_by_ending _ _ _ _ _ _ _ c.loop-byte-test.true (sym c.effect_of.ensures ∙ w.in-EndsCell.is)
         c.loop-byte.invariant.cells);
     partial = rw w.cells-is w.in_ok-push_field-in-EndsCell.ensures.partial;
   }

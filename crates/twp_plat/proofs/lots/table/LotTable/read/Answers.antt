@@ -4,7 +4,7 @@ use Rattle.std.specs.Prelude.{unwrap_or}
 use Rattle.std.proofs.lemmas.Result.{err_from_is_err_and}
 use Rattle.twp_notes.proofs.DeviceFacts.{tells_some}
 use Rattle.twp_plat.proofs.lots.FirstPlatFaults.{answers_reading, too_large_first}
-use Rattle.twp_plat.specs.LotsFaults.{IsFirstFault}
+use Rattle.twp_plat.specs.LotsFaults.{IsFirstLotsFault}
 use Rattle.twp_plat.specs.declared.lots.fault.LotsFault.TheVariants.{TooLarge}
 use Rattle.twp_plat.proofs.lots.table.LotTable.read.Goals as goal
 
@@ -18,4 +18,4 @@ pub returns-in-None-clause-told : goal.returns-in-None-clause-told
 returns-in-None-clause-told g c bytes known =
     let is = rw c.in-None.is at c.in_ok-bytes.ensures.bytes in
     let same : bytes ≡ is.0 = rw known at is.1 in
-    subst (λ b. IsFirstFault b TooLarge) (sym same) (too_large_first is.0 is.2)
+    subst (λ b. IsFirstLotsFault b TooLarge) (sym same) (too_large_first is.0 is.2)

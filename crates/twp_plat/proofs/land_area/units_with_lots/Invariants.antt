@@ -6,7 +6,7 @@ use Rattle.twp_plat.specs.Closing.{CLOSING_MOST}
 use Rattle.twp_grid.specs.Spans.{over_positions}
 use Rattle.twp_plat.specs.steps.Accounts.{over_by, AreUnitsBy}
 use Rattle.twp_plat.proofs.SectionSums.{of_lots, places_where, piece_where}
-use Rattle.twp_plat.proofs.land_area.units_in_section.Given as goal
+use Rattle.twp_plat.proofs.land_area.units_with_lots.Given as goal
 
 -- for the lots so far, their places are subtracted and their pieces are added
 abbrev pub invariant-loop-lot : goal.invariant-loop-lot
