@@ -226,6 +226,23 @@ fn refusals() {
 }
 
 #[test]
+fn number_in_a_gap() {
+    let table = "section,lot,acres,land\nT,2,N,3,W\n14,2,40.00,NE1/4NE1/4\n14,5,40.00,NW1/4NE1/4\n";
+    let lots: Lots = table.parse().unwrap();
+    for (lot, hint) in [
+        (1, None),
+        (3, Some("the nearest lots are 2 and 5")),
+        (4, Some("the nearest lots are 2 and 5")),
+        (6, None),
+    ] {
+        let refused = lots.acres(&format!("sec. 14, lot {lot}.")).unwrap_err();
+        assert_eq!(refused.number, 64);
+        assert_eq!(refused.sentence(), "section 14 has lots 2 and 5");
+        assert_eq!(refused.hints().first().map(String::as_str), hint);
+    }
+}
+
+#[test]
 fn land_on_a_plat() {
     let land = lake().land("sec. 14, lots 1 and 4.").unwrap();
     assert_eq!((land.date(), land.lots()), (lake().date(), Some(&lake())));

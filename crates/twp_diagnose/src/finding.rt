@@ -14,10 +14,9 @@ use crate::explanation::{Explanation, OtherPlace};
 use crate::location::{Given, Located, Location, message_at};
 use crate::section_lots::{fill_with_lots, fill_with_section, holds_whole_lots};
 use std::alloc::{AllocError, Global};
-use twp_grammar::Steps;
+use twp_grammar::{Steps, chain_block};
 use twp_grid::{Refusal, Section, Township};
 use twp_land::{Land, Lanes, Lotting};
-use twp_resolve::chain_block;
 use twp_spell::{held_lots, spell};
 
 /// What was found wrong.

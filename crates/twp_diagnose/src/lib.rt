@@ -23,7 +23,7 @@ pub use location::{Given, Located, Location, Origin, line_in, message_at, spot_i
 pub use mark::{chain_span, heading_span, range_span, token_span};
 pub use numbers::{is_short_number, number_in, thousandths, thousandths_of};
 pub use quoted::write_quoted;
-pub use records::{Record, is_text, text_in, write_count};
+pub use records::{Record, text_in, write_count};
 pub use section_lots::holds_whole_lots;
 pub use shared_land::{SharedLand, shared_land_text};
 pub use sight::{Surroundings, TokenAt};

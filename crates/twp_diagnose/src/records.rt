@@ -249,13 +249,6 @@ fn end_of_field(bytes: &[u8], start: usize) -> usize
     bytes.len()
 }
 
-/// Whether some bytes are exactly this text.
-pub fn is_text(bytes: &[u8], text: &str) -> bool
-    ensures { IsTrue result ↔ (bytes.now ≡ text.now) }
-{
-    bytes == text.as_bytes()
-}
-
 /// Appends how many fields there are.
 pub fn write_count(fields: usize, out: &mut String) -> Result<(), AllocError> {
     if fields == 1 {

@@ -15,9 +15,9 @@ const INDENT: &str = "  ";
 /// The columns that words may take in a line. The last line leaves room for a space and two dots.
 const LAST_LINE: usize = COLUMNS - 1 - DOTS.len();
 
-/// A place on one of the lines.
+/// A place for a word on one of the lines.
 #[derive(Clone, Copy)]
-struct Place {
+struct WordPlace {
     /// The columns of the line before the place.
     columns: usize,
     /// Whether a word precedes it on the line.
@@ -32,11 +32,11 @@ struct Place {
     continued: u32,
 }
 
-impl Place {
+impl WordPlace {
     /// The place after the first word of the next line, which begins a line of its own or continues this one.
-    fn on_next_line(self, columns: usize, is_continued: bool) -> Place {
+    fn on_next_line(self, columns: usize, is_continued: bool) -> WordPlace {
         let line = self.line.saturating_add(1);
-        Place {
+        WordPlace {
             columns,
             is_after_word: true,
             lines: self.lines.saturating_sub(1),
@@ -89,7 +89,7 @@ pub fn write_wrapped(
     ensures safe { AddsLines (string_bytes out.old) (string_bytes out.new) }
     ensures ended { OnOk result (AddsEnded (string_bytes out.old) (string_bytes out.new)) }
 {
-    let mut place = Place {
+    let mut place = WordPlace {
         columns,
         is_after_word: false,
         lines: lines.saturating_sub(1),
@@ -109,7 +109,7 @@ pub fn write_wrapped(
 /// Appends a word at a place, or at the beginning of the next line if it doesn't fit there or a line feed is
 /// before it.
 #[tactic(auto, using(crate::proofs::ShownFacts::adds_trans, crate::proofs::ShownFacts::lines_of_shown))]
-fn write_word(word: &str, place: Place, out: &mut String) -> Result<Place, AllocError>
+fn write_word(word: &str, place: WordPlace, out: &mut String) -> Result<WordPlace, AllocError>
     ensures safe { AddsLines (string_bytes out.old) (string_bytes out.new) }
 {
     let gap = if place.is_after_word { " " } else { "" };
@@ -122,7 +122,7 @@ fn write_word(word: &str, place: Place, out: &mut String) -> Result<Place, Alloc
     let most = if place.lines == 0 { LAST_LINE } else { COLUMNS };
     if columns <= most && !is_next {
         write_after(gap, word, COLUMNS, out)?;
-        return Ok(Place {
+        return Ok(WordPlace {
             columns,
             is_after_word: true,
             ..place
@@ -130,7 +130,7 @@ fn write_word(word: &str, place: Place, out: &mut String) -> Result<Place, Alloc
     }
     if place.lines == 0 {
         write_after(gap, DOTS, COLUMNS, out)?;
-        return Ok(Place {
+        return Ok(WordPlace {
             is_full: true,
             ..place
         });

@@ -6,7 +6,7 @@ use Rattle.twp_grid.specs.declared.refusal.Refusal.{Refusal}
 use Rattle.twp_notes.specs.NotesFaults as notes_faults
 use Rattle.twp_notes.specs.declared.fault.NotesFault.{NotesFault}
 use Rattle.twp_notes.specs.FieldNotes.{FieldNotes, AreNotes}
-use Rattle.twp_plat.specs.Plats.{TownshipPlat}
+use Rattle.twp_plat.specs.Plats.{SurveyPlat}
 use Rattle.twp_plat.specs.PlatFaults as plat_faults
 use Rattle.twp_plat.specs.declared.fault.PlatFault.{PlatFault}
 use Rattle.twp_read.specs.TextFaults as text_faults
@@ -40,21 +40,21 @@ held (Some some) refusal Held is held_if = held_if
 
 -- notes that are refused make no plat
 pub notes_refused : (stopped : SearchStop) (bytes : List ℕ) (fault : NotesFault)
-    → IfSome (notes_faults.refusal_of fault) (λ _. notes_faults.IsFirstFault bytes fault)
+    → IfSome (notes_faults.refusal_of fault) (λ _. notes_faults.IsFirstNotesFault bytes fault)
     → IfFound stopped (λ found. notes_faults.refusal_of fault ≡ Some found)
     → IfFound stopped (IsNoPlat bytes)
 notes_refused (stop.Found finding) bytes fault first is =
     inl (record {
       fault = fault;
       first = held (notes_faults.refusal_of fault) finding.refusal
-          (notes_faults.IsFirstFault bytes fault) is first;
+          (notes_faults.IsFirstNotesFault bytes fault) is first;
       refusal_is = is;
     })
 notes_refused stop.Memory bytes fault first is = tt
 
 -- notes whose lines are out of their limits make no plat
 pub lines_refused : (stopped : SearchStop) (bytes : List ℕ) (notes : FieldNotes) (fault : PlatFault)
-    → AreNotes bytes notes → plat_faults.IsFirstFault notes fault
+    → AreNotes bytes notes → plat_faults.IsFirstPlatFault notes fault
     → IfFound stopped (λ found. plat_faults.refusal_of fault ≡ Some found)
     → IfFound stopped (IsNoPlat bytes)
 lines_refused (stop.Found finding) bytes notes fault are first is =
@@ -88,7 +88,7 @@ items_refused lots (stop.Found finding) township bytes items fault read first is
 items_refused lots stop.Memory township bytes items fault read first is = tt
 
 -- of notes that make a plat no refusal is the verdict
-pub platted_is_none : (bytes : List ℕ) (plat : TownshipPlat) (verdict : Verdict) → ArePlatted bytes plat
+pub platted_is_none : (bytes : List ℕ) (plat : SurveyPlat) (verdict : Verdict) → ArePlatted bytes plat
     → IsOfNone (IsNoPlat bytes) verdict
 platted_is_none bytes plat verdict are refusal none said = not_platted bytes refusal plat none are
 
@@ -128,7 +128,7 @@ of_land notes description (stop.Found finding) none = inl none
 of_land notes description stop.Memory none = tt
 
 -- and so is a description that is of no land on their plat
-pub of_description : (notes description : List ℕ) (plat : TownshipPlat) (stopped : SearchStop)
+pub of_description : (notes description : List ℕ) (plat : SurveyPlat) (stopped : SearchStop)
     → ArePlatted notes plat → IfFound stopped (IsNoDescription STANDARD_LOTS plat.township description)
     → IfFound stopped (IsRefusal notes description)
 of_description notes description plat (stop.Found finding) are none =
@@ -136,7 +136,7 @@ of_description notes description plat (stop.Found finding) are none =
 of_description notes description plat stop.Memory are none = tt
 
 -- of land on their plat no refusal is the verdict
-pub land_is_none : (notes description : List ℕ) (plat : TownshipPlat) (verdict : Verdict)
+pub land_is_none : (notes description : List ℕ) (plat : SurveyPlat) (verdict : Verdict)
     → ArePlatted notes plat → DescribeLand STANDARD_LOTS plat.township description
     → IsOfNone (IsRefusal notes description) verdict
 land_is_none notes description plat verdict are land refusal (inl none) said =
@@ -144,7 +144,7 @@ land_is_none notes description plat verdict are land refusal (inl none) said =
 land_is_none notes description plat verdict are land refusal (inr is) said =
     let same : is.plat ≡ plat = one_plat notes is.plat plat is.platted are in
     not_described STANDARD_LOTS plat.township description refusal land.0
-    (subst (λ (p : TownshipPlat). IsNoDescription STANDARD_LOTS p.township description refusal) same
+    (subst (λ (p : SurveyPlat). IsNoDescription STANDARD_LOTS p.township description refusal) same
     is.refused)
     land.1
 

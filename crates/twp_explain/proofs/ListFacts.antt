@@ -2,7 +2,7 @@
 use Rattle.std.proofs.Common.{◌≡◌, ◌≢◌, ℕ, List, Some, refl, inl, inr, subst}
 use Rattle.twp_grid.specs.Townships.{Designation}
 use Rattle.twp_grid.specs.declared.refusal.Refusal.{Refusal}
-use Rattle.twp_plat.specs.Plats.{TownshipPlat}
+use Rattle.twp_plat.specs.Plats.{SurveyPlat}
 use Rattle.twp_answers.specs.Answers.{ArePlatted, IsNoPlat}
 use Rattle.twp_answers.specs.TractFaults.{AnswersFault, IsFirstTractFault, refusal_of, verdict_of}
 use Rattle.twp_answers.specs.declared.tract_fault.TractFault.{TractFault}
@@ -59,7 +59,7 @@ told_of_notes (stop.Found finding) notes tracts verdict refusal none is judged =
 told_of_notes stop.Memory notes tracts verdict refusal none is judged = absurd is
 
 -- a list's first fault is what is explained of
-pub told_of_list : (notes tracts : List ℕ) (plat : TownshipPlat) (is : TractFault) (verdict : Verdict)
+pub told_of_list : (notes tracts : List ℕ) (plat : SurveyPlat) (is : TractFault) (verdict : Verdict)
     (refusal : Refusal)
     → ArePlatted notes plat → IsFirstTractFault STANDARD_LOTS plat.township tracts is
     → verdict_of is ≡ Some verdict → refusal_of is ≡ Some refusal

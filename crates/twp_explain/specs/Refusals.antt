@@ -2,7 +2,7 @@
 use Rattle.std.specs.Prelude.{◌≡◌, ◌≢◌, ◌⊎◌, ℕ, Bool, List, Option, Some, None}
 use Rattle.twp_grid.specs.Townships.{Designation}
 use Rattle.twp_grid.specs.declared.refusal.Refusal.{Refusal}
-use Rattle.twp_plat.specs.Plats.{TownshipPlat}
+use Rattle.twp_plat.specs.Plats.{SurveyPlat}
 use Rattle.twp_answers.specs.Answers.{ArePlatted, Describe, IsNoPlat}
 use Rattle.twp_answers.specs.ReportAnswers.{IsAccountOf}
 use Rattle.twp_answers.specs.TractFaults.{IsFirstTractFault, refusal_of, verdict_of}
@@ -27,7 +27,7 @@ abbrev pub DescribeLand : Lotting → Designation → List ℕ → Type 0
 DescribeLand lots township bytes = (places : ℕ → ℕ → ℕ → Bool) × Describe lots township bytes places
 
 -- the list has an account on the plat
-abbrev pub HasAccount : TownshipPlat → List ℕ → Type 0
+abbrev pub HasAccount : SurveyPlat → List ℕ → Type 0
 HasAccount plat list = (text : List ℕ) × IsAccountOf plat list text
 
 -- the refusal of a verdict, without that of a tract's description
@@ -39,7 +39,7 @@ first_refusal (TractRefused at_ inner) = Some (record { number = 83; at = at_ })
 -- the notes make a plat, and the list has this verdict and refusal, for its first fault
 pub record IsRefusalOfList (notes tracts : List ℕ) (verdict : Verdict) (refusal : Refusal)
     : Type 0 where
-  pub plat : TownshipPlat
+  pub plat : SurveyPlat
   pub platted : ArePlatted notes plat
   pub fault : TractFault
   pub first : IsFirstTractFault STANDARD_LOTS plat.township tracts fault

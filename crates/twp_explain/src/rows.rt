@@ -4,8 +4,9 @@ ghost use Rattle.twp_diagnose.specs.RecordFields.{fields_listed, number_listed};
 ghost use Rattle.twp_explain.specs.BlamedTracts.{IsNotOfHeading, ShowsRow};
 
 use std::alloc::{AllocError, Global};
-use twp_diagnose::{Finding, Listed, Location, Origin, is_text, write_count, write_quoted};
+use twp_diagnose::{Finding, Listed, Location, Origin, write_count, write_quoted};
 use twp_excerpt::{Span, write_escaped};
+use twp_notes::is_exactly;
 use twp_read::{Description, TextFault};
 
 /// How many fields a record has.
@@ -46,9 +47,9 @@ pub(crate) fn explain(
 fn heading_place(listed: &Listed<'_>) -> usize
     ensures { IsNotOfHeading (fields_listed listed.now) result }
 {
-    if !is_text(listed.field(0), "name") {
+    if !is_exactly(listed.field(0), "name") {
         0
-    } else if !is_text(listed.field(1), "description") {
+    } else if !is_exactly(listed.field(1), "description") {
         1
     } else {
         2
@@ -168,13 +169,13 @@ const HINTS: [ListHint; 8] = [
 
 /// Appends what mends a record, where that is known.
 fn write_help(alloc: Global, listed: &Listed<'_>, text: &mut String) -> Result<(), AllocError> {
-    for hint in &HINTS {
-        let ListHint(sign, advice) = hint;
+    for row in &HINTS {
+        let ListHint(sign, hint) = row;
         if sign.fits(listed) {
             if *sign == ListPattern::Unquoted && ends_before_last(alloc, listed)? {
                 return Ok(());
             }
-            text.push_str(advice)?;
+            text.push_str(hint)?;
             return write_mended(*sign, listed, text);
         }
     }

@@ -27,16 +27,17 @@ pub record BeginsAsHeading (fields : Fields) : Type 0 where
   pub acres : field fields 2 ≡ codes "acres"
 
 -- how many fields the heading has whose first three these fields have: `land` may be the fourth
-pub data AreColumns (fields : Fields) (columns : ℕ) : Type 0 where
-  of_standard_lots : field fields LOT_FIELDS ≢ codes "land" → columns ≡ LOT_FIELDS → AreColumns fields columns
-  with_land : field fields LOT_FIELDS ≡ codes "land" → columns ≡ LAND_FIELDS → AreColumns fields columns
+pub data IsColumnCount (fields : Fields) (columns : ℕ) : Type 0 where
+  of_standard_lots : field fields LOT_FIELDS ≢ codes "land" → columns ≡ LOT_FIELDS
+      → IsColumnCount fields columns
+  with_land : field fields LOT_FIELDS ≡ codes "land" → columns ≡ LAND_FIELDS → IsColumnCount fields columns
 
 -- Of a record that is not the heading: a field that differs from the heading's, or all fields after those of
 -- the heading.
 pub data AreUnlikeHeading (fields : Fields) (range : FieldRange) : Type 0 where
   a_field : IsOneField (λ place. field fields place ≢ field lots_heading place) range
       → AreUnlikeHeading fields range
-  more_fields : (columns : ℕ) → BeginsAsHeading fields → AreColumns fields columns
+  more_fields : (columns : ℕ) → BeginsAsHeading fields → IsColumnCount fields columns
       → AreSurplus columns fields range → AreUnlikeHeading fields range
 
 -- the most fields of the township's record

@@ -13,6 +13,6 @@ mod stops;
 
 pub(crate) use blamed::{FieldRange, unlike_township};
 pub(crate) use note_faults::{write_section_fault, write_township_fault};
-pub(crate) use note_hints::{advice_on, begins, is_spaced, is_word};
+pub(crate) use note_hints::{begins, is_spaced, is_word, note_hint_on};
 pub(crate) use notes::{EarlierRecord, other_of};
 pub use stops::{stop_of_notes, stop_of_plat};

@@ -118,6 +118,15 @@ KIND(BY_LOTS, township_lots_explain_description, township_lots_explain_descripti
 KIND(LIST_BY_LOTS, township_lots_explain_list, township_lots_explain_list_parts, (township_lots[]){lake()}, input.at,
      input.length);
 
+/* A section with lots 2 and 5, and none between them. */
+#define GAP                                                                                                            \
+    "section,lot,acres,land\nT,2,N,3,W\n"                                                                              \
+    "14,2,40.00,NE1/4NE1/4\n"                                                                                          \
+    "14,5,40.00,NW1/4NE1/4\n"
+
+KIND(WITH_GAP, township_lots_explain_description, township_lots_explain_description_parts,
+     (township_lots[]){table_of(GAP)}, input.at, input.length);
+
 /* The same answer and text as without the parts; and neither a text nor parts if the room is a byte too small. */
 static void explains(kind it, const township_plat *plat, const char *given, said wanted) {
     bytes input = bytes_of(given);
@@ -200,6 +209,12 @@ static void explains_by_lots(void) {
                     "  1 | sec. 5, lots 1 and 2.\n    |                    ^\n", "", ""});
     explains(BY_LOTS, NULL, "sec. 6, lot 1.",
              (said){"1", NULL, 0, "section 6 has no lots", "  1 | sec. 6, lot 1.\n    |             ^\n", "", ""});
+    explains(WITH_GAP, NULL, "sec. 14, lot 3.",
+             (said){"3", NULL, 0, "section 14 has lots 2 and 5", "  1 | sec. 14, lot 3.\n    |              ^\n",
+                    "  the nearest lots are 2 and 5\n", ""});
+    explains(WITH_GAP, NULL, "sec. 14, lot 6.",
+             (said){"6", NULL, 0, "section 14 has lots 2 and 5", "  1 | sec. 14, lot 6.\n    |              ^\n", "",
+                    ""});
     answers_by_lots("sec. 14, NE1/4.", refused(66, 9), 1, 10);
     explains(BY_LOTS, NULL, "sec. 14, NE1/4.",
              (said){"NE1/4", NULL, 0, "this part includes lots; name the lots instead",

@@ -1,6 +1,6 @@
 //! Which tokens of a text a note is about.
 use twp_grammar::{Kind, Tokens};
-use twp_read::{Doubt, DoubtfulPlace};
+use twp_read::{Doubt, DoubtfulPlace, is_of_step};
 
 /// How many bytes `and` takes.
 const AND: usize = 3;
@@ -33,14 +33,6 @@ impl NotedTokens {
             NotedTokens::Number => matches!(kind, Kind::Number(_)),
         }
     }
-}
-
-/// Whether a token is the letters or the fraction of a step.
-fn is_of_step(kind: Kind) -> bool {
-    matches!(
-        kind,
-        Kind::NorthSouth(_) | Kind::EastWest(_) | Kind::Corner(_) | Kind::Half | Kind::Quarter
-    )
 }
 
 /// Whether a token is a number of a list, or joins two numbers.

@@ -8,14 +8,14 @@ use Rattle.twp_grammar.specs.declared.item.Item.TheVariants as item
 use Rattle.twp_grammar.specs.declared.item.Numeral.{Numeral}
 
 -- one of two numbers is at a place, and this is its value
-abbrev pub IsOneOf : ℕ → Numeral → Numeral → ℕ → Type 0
-IsOneOf at first last value =
+abbrev pub IsOneOfTwo : ℕ → Numeral → Numeral → ℕ → Type 0
+IsOneOfTwo at first last value =
     ((first.at ≡ at) × (value ≡ first.value)) ⊎ ((last.at ≡ at) × (value ≡ last.value))
 
 -- so is one of an item's numbers: the first or the last of its sections, or of its lots
 abbrev pub HasNumberAt : ℕ → Item → ℕ → Type 0
-HasNumberAt at (item.Sections first last whole) value = IsOneOf at first last value
-HasNumberAt at (item.Lots first last) value = IsOneOf at first last value
+HasNumberAt at (item.Sections first last whole) value = IsOneOfTwo at first last value
+HasNumberAt at (item.Lots first last) value = IsOneOfTwo at first last value
 HasNumberAt at other value = ⊥
 
 -- none of an item's numbers is at the place

@@ -18,8 +18,8 @@ use crate::descriptions::places::items::{
 pub use crate::descriptions::places::words::write_land;
 pub(crate) use crate::descriptions::places::words::write_lots_of;
 use crate::descriptions::places::words::{
-    turned_range, write_heading, write_lots_and_rest, write_lots_cut, write_no_land,
-    write_township, write_whole_lots,
+    turned_range, write_heading, write_lots_and_rest, write_lots_cut, write_nearest_lots,
+    write_no_land, write_township, write_whole_lots,
 };
 use std::alloc::{AllocError, Global};
 use twp_diagnose::{
@@ -208,13 +208,16 @@ impl<'a, P: Lotting> Described<'a, P> {
         ensures other { IfOk result (λ explained. explained.other ≡ None) }
     {
         let mut sentence = String::new(alloc);
+        let mut help = String::new(alloc);
         if let Some(section) = section_of_number(self.description.items(), at) {
             write_lots_of(section, self.lots, &mut sentence)?;
+            let number = number_at(self.description.items(), at).unwrap_or(0);
+            write_nearest_lots(section, number, self.lots, &mut help)?;
         }
         Ok(Explained {
             end: token_span(self.text, at as usize).end,
             sentence,
-            help: String::new(alloc),
+            help,
             other: None,
         })
     }

@@ -7,9 +7,9 @@ ghost use Rattle.twp_diagnose.specs.RecordFields.{fields_in};
 ghost use Rattle.twp_sentences.specs.Blamed.{AreBlamed, IsNoDistance, IsNoSection, IsNotOfTownship};
 ghost use Rattle.twp_sentences.specs.Blamed.{one_field, IsTownshipText};
 
-use twp_diagnose::{Record, is_text};
+use twp_diagnose::Record;
 use twp_measure::Length;
-use twp_notes::{FIELDS, NotesFault, section_of, short_number};
+use twp_notes::{FIELDS, NotesFault, is_exactly, section_of, short_number};
 
 /// Fields of a record, from one to another, counted from 0.
 #[derive(Clone, Copy, PartialEq, Eq)]
@@ -55,13 +55,13 @@ fn unlike_heading(record: &Record<'_>) -> usize
     ensures { length (fields_in «record».now) ≡ FIELDS → fields_in «record».now ≢ heading
         → field (fields_in «record».now) result ≢ field heading result }
 {
-    if !is_text(record.text(0), "line") {
+    if !is_exactly(record.text(0), "line") {
         0
-    } else if !is_text(record.text(1), "between") {
+    } else if !is_exactly(record.text(1), "between") {
         1
-    } else if !is_text(record.text(2), "and") {
+    } else if !is_exactly(record.text(2), "and") {
         2
-    } else if !is_text(record.text(3), "quarter") {
+    } else if !is_exactly(record.text(3), "quarter") {
         3
     } else {
         4
@@ -75,7 +75,7 @@ pub(crate) fn unlike_township(record: &Record<'_>) -> usize
         → HasNone (IsTownshipRecord (fields_in «record».now))
         → IsNotOfTownship (fields_in «record».now) result }
 {
-    if !is_text(record.text(0), "T") {
+    if !is_exactly(record.text(0), "T") {
         0
     } else if !is_township_number(record.text(1)) {
         1
@@ -114,7 +114,7 @@ fn no_distance(record: &Record<'_>) -> usize
 fn is_north_south(text: &[u8]) -> bool
     ensures { IsTrue result ↔ ((text.now ≡ codes "N") ⊎ (text.now ≡ codes "S")) }
 {
-    is_text(text, "N") || is_text(text, "S")
+    is_exactly(text, "N") || is_exactly(text, "S")
 }
 
 /// Whether a text is a number from 1 to 99, in one or two digits.

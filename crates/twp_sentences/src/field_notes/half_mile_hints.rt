@@ -49,8 +49,8 @@ impl Slip {
         }
     }
 
-    /// What is said of the mended distances.
-    fn advice(self) -> &'static str {
+    /// The hint, before the mended distances.
+    fn hint(self) -> &'static str {
         match self {
             Slip::HalfMileAlone => "if the second distance starts at the quarter corner, write ",
             Slip::Exchanged => "if the two distances are swapped, write ",
@@ -91,7 +91,7 @@ pub(crate) fn write_half_mile_hint(
 
 /// Appends the mended distances.
 fn write_mended(slip: Slip, mended: Distances, out: &mut String) -> Result<(), AllocError> {
-    out.push_str(slip.advice())?;
+    out.push_str(slip.hint())?;
     write_chains(i64::from(mended.quarter), out)?;
     out.push_str(" and ")?;
     write_chains(i64::from(mended.corner), out)

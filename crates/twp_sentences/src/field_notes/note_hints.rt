@@ -195,10 +195,10 @@ const HINTS: [NoteHint; 45] = [
 const HEADING: [&str; FIELDS] = ["line", "between", "and", "quarter", "corner"];
 
 /// What mends a record that was refused with a number for one of its fields, from 0.
-pub(crate) fn advice_on(number: u8, record: &Record<'_>, field: usize) -> Option<&'static str> {
-    for NoteHint(refusal, sign, advice) in &HINTS {
+pub(crate) fn note_hint_on(number: u8, record: &Record<'_>, field: usize) -> Option<&'static str> {
+    for NoteHint(refusal, sign, hint) in &HINTS {
         if *refusal == number && sign.fits(record, field) {
-            return Some(*advice);
+            return Some(*hint);
         }
     }
     None

@@ -10,7 +10,7 @@ ghost use Rattle.twp_sentences.specs.steps.EarlierRecords.{place_of_record};
 use crate::field_notes::blamed::blamed;
 use crate::field_notes::lines::{write_names, write_side};
 use crate::field_notes::note_faults::write_fault;
-use crate::field_notes::note_hints::advice_on;
+use crate::field_notes::note_hints::note_hint_on;
 use std::alloc::{AllocError, Global};
 use twp_diagnose::{Finding, Given, Location, OtherPlace, Record, line_in};
 use twp_excerpt::Span;
@@ -41,8 +41,8 @@ pub(crate) fn find(
     let mut help = String::new(alloc);
     let earlier = earlier_of(alloc, notes, fault, &record)?;
     write_help(fault, &record, earlier.as_ref(), &mut help)?;
-    if let Some(advice) = advice_on(refusal.number, &record, fields.first) {
-        help.push_str(advice)?;
+    if let Some(hint) = note_hint_on(refusal.number, &record, fields.first) {
+        help.push_str(hint)?;
     }
     Ok(Finding {
         refusal,
@@ -185,7 +185,7 @@ fn write_other_run(record: &Record<'_>, out: &mut String) -> Result<(), AllocErr
     let Some(section) = section_of(record.text(1)) else {
         return Ok(());
     };
-    let (run, advice) = if record.text(0) == b"N".as_slice() {
+    let (run, hint) = if record.text(0) == b"N".as_slice() {
         (Run::West, " runs west: write `W`")
     } else {
         (Run::North, " runs north: write `N`")
@@ -195,7 +195,7 @@ fn write_other_run(record: &Record<'_>, out: &mut String) -> Result<(), AllocErr
     };
     out.push_str("the line ")?;
     write_side(line, out)?;
-    out.push_str(advice)
+    out.push_str(hint)
 }
 
 /// The line of a run between a section and what a field names.

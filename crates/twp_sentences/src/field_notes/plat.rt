@@ -8,7 +8,7 @@ ghost use Rattle.twp_sentences.specs.BlamedDistances.{IsShownIn, ShowsDistance};
 
 use crate::field_notes::half_mile_hints::write_half_mile_hint;
 use crate::field_notes::lines::{half_mile, last_quarter_mile, write_chains, write_side};
-use crate::field_notes::note_hints::advice_on;
+use crate::field_notes::note_hints::note_hint_on;
 use std::alloc::{AllocError, Global};
 use twp_diagnose::{Finding, Given, Location, Record};
 use twp_grid::{Line, Refusal};
@@ -48,7 +48,7 @@ pub(crate) fn find(
             line,
             returned,
             fault,
-            advice_of(&record, refusal, fault),
+            hint_of(&record, refusal, fault),
         )?,
         other: None,
         reading: None,
@@ -66,30 +66,30 @@ fn place_of(record: &Option<Record<'_>>, field: usize) -> Location
 }
 
 /// What mends a record, where its text shows it.
-fn advice_of(
+fn hint_of(
     record: &Option<Record<'_>>,
     refusal: Refusal,
     fault: PlatFault,
 ) -> Option<&'static str> {
     match record {
-        Some(record) => advice_on(refusal.number, record, field_of(fault)),
+        Some(record) => note_hint_on(refusal.number, record, field_of(fault)),
         None => None,
     }
 }
 
-/// What the explanation says of a line besides its fault: its index, and some advice, or else a hint from its
-/// distances.
+/// What the explanation says of a line besides its fault: its index, and the hint on its record, or else
+/// one from its distances.
 fn help(
     alloc: Global,
     line: Line,
     returned: Returned,
     fault: PlatFault,
-    advice: Option<&'static str>,
+    hint: Option<&'static str>,
 ) -> Result<String, AllocError> {
     let mut help = String::new(alloc);
     write!(help, "section line {}; ", line.index())?;
-    match advice {
-        Some(advice) => help.push_str(advice)?,
+    match hint {
+        Some(hint) => help.push_str(hint)?,
         None => write_half_mile_hint(line, returned, fault, &mut help)?,
     }
     Ok(help)

@@ -2,12 +2,12 @@
 ghost use Rattle.std.specs.Prelude.{◌≡◌, ◌≢◌};
 ghost use Rattle.twp_plat.specs.LotRecords.{lots_heading};
 ghost use Rattle.twp_diagnose.specs.RecordFields.{fields_in};
-ghost use Rattle.twp_sentences.specs.BlamedInTables.{AreBlamedInTable, AreColumns, AreMiscounted};
+ghost use Rattle.twp_sentences.specs.BlamedInTables.{AreBlamedInTable, IsColumnCount, AreMiscounted};
 ghost use Rattle.twp_sentences.specs.BlamedInTables.{AreUnlikeHeading, IsNotOfLot, columns_of};
 
 use crate::field_notes::{FieldRange, unlike_township};
-use twp_diagnose::{Record, is_text};
-use twp_notes::section_of;
+use twp_diagnose::Record;
+use twp_notes::{is_exactly, section_of};
 use twp_plat::LotsFault;
 
 /// The number of fields in the record of a lot.
@@ -58,11 +58,11 @@ fn unlike_lots_heading(record: &Record<'_>) -> FieldRange
     ensures { fields_in «record».now ≢ lots_heading
         → AreUnlikeHeading (fields_in «record».now) result }
 {
-    if !is_text(record.text(0), "section") {
+    if !is_exactly(record.text(0), "section") {
         FieldRange::one(0)
-    } else if !is_text(record.text(1), "lot") {
+    } else if !is_exactly(record.text(1), "lot") {
         FieldRange::one(1)
-    } else if !is_text(record.text(2), "acres") {
+    } else if !is_exactly(record.text(2), "acres") {
         FieldRange::one(2)
     } else {
         FieldRange {
@@ -74,9 +74,9 @@ fn unlike_lots_heading(record: &Record<'_>) -> FieldRange
 
 /// How many fields the heading has whose first three a record has.
 fn heading_fields(record: &Record<'_>) -> usize
-    ensures { AreColumns (fields_in «record».now) result }
+    ensures { IsColumnCount (fields_in «record».now) result }
 {
-    if is_text(record.text(LAND), "land") {
+    if is_exactly(record.text(LAND), "land") {
         LAND_FIELDS
     } else {
         LOT_FIELDS

@@ -1,13 +1,13 @@
 //! What mends a record of a lot table, where its bytes explain it: a table of which the first row that
 //! fits counts.
 
-use crate::field_notes::advice_on;
+use crate::field_notes::note_hint_on;
 use crate::lot_tables::acres::write_two_decimals;
 use crate::lot_tables::lot_patterns::LotPattern;
 use crate::lot_tables::lot_patterns::LotPattern::{
-    Any, Begins, CasedHeading, Contains, CutAcres, DecimalComma, Empty, EmptyField, EmptyFields,
-    Letters, LongHeading, LotRecord, OneField, Says, SecondLotRecord, Spaced, SpacedHeading,
-    StartsField, WithUnit, Worded, Zeros,
+    Any, BareSection, Begins, CasedHeading, Contains, CutAcres, DecimalComma, Empty, EmptyField,
+    EmptyFields, LandRecord, Letters, LongHeading, LotRecord, OneField, Says, SecondLotRecord,
+    Spaced, SpacedHeading, StartsField, WithUnit, Worded, Zeros,
 };
 use std::alloc::AllocError;
 use twp_diagnose::Record;
@@ -17,7 +17,7 @@ use twp_grid::Refusal;
 struct LotHint(u8, LotPattern, &'static str);
 
 /// The rows, by the numbers of refusals.
-const LOT_HINTS: [LotHint; 37] = [
+const LOT_HINTS: [LotHint; 39] = [
     LotHint(88, Zeros, "the file looks like UTF-16: save it as UTF-8"),
     LotHint(
         88,
@@ -108,11 +108,21 @@ const LOT_HINTS: [LotHint; 37] = [
         LotRecord,
         "the land is missing: write where the lot lies, as in `NE1/4NE1/4`",
     ),
+    LotHint(
+        89,
+        LandRecord,
+        "add the column `land` to the heading: `section,lot,acres,land`",
+    ),
     LotHint(91, Empty, "delete the empty row"),
     LotHint(91, Spaced, "spaces are significant here: delete the space"),
     LotHint(91, Says(0, "total"), "delete the row with the total"),
     LotHint(91, Worded(0), "write only the number of the section"),
     LotHint(91, Worded(1), "write only the number of the lot"),
+    LotHint(
+        91,
+        BareSection,
+        "with three columns, the lots are those of a regular township; for others, add the column `land`",
+    ),
     LotHint(92, Spaced, "spaces are significant here: delete the space"),
     LotHint(
         92,
@@ -180,7 +190,7 @@ const TOWNSHIP_OF_NOTES: u8 = 5;
 /// What mends a record that was refused with a number.
 fn hint_on(number: u8, record: &Record<'_>, field: usize) -> Option<&'static str> {
     if number == TOWNSHIP {
-        return advice_on(TOWNSHIP_OF_NOTES, record, field);
+        return note_hint_on(TOWNSHIP_OF_NOTES, record, field);
     }
     for LotHint(refusal, sign, hint) in &LOT_HINTS {
         if *refusal == number && sign.fits(record, field) {

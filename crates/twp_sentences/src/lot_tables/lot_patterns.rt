@@ -1,7 +1,9 @@
 //! What is seen of a record of a lot table that explains what is wrong with it.
 
 use crate::field_notes::{begins, is_spaced, is_word};
+use crate::lot_tables::earlier::numbers_in;
 use twp_diagnose::{Record, is_short_number};
+use twp_land::{Lotting, StandardLots};
 
 /// What may be seen of a record of a lot table, and of the first field of it that is to blame.
 #[derive(Clone, Copy)]
@@ -28,10 +30,14 @@ pub(crate) enum LotPattern {
     CasedHeading,
     /// It has the fields of a lot's record, without land.
     LotRecord,
-    /// The same, of the record of the township.
+    /// The record of the township has the fields of a lot's record, with or without land.
     SecondLotRecord,
+    /// It has the fields of a lot's record, with land, or of a record of what is not there.
+    LandRecord,
     /// It has the fields of a lot's record, with a comma in its acreage.
     CutAcres,
+    /// It is for a lot of a section in which a regular township has no lots.
+    BareSection,
     /// The field to blame is this one, from 0, and a number with a word before it.
     Worded(usize),
     /// The field to blame is an acreage with a comma for its point.
@@ -76,8 +82,10 @@ impl LotPattern {
             LotPattern::CasedHeading => record.len() == columns(record) && is_like_heading(record),
             LotPattern::LotRecord => is_lot_record(record),
             LotPattern::SecondLotRecord => record.number == TOWNSHIP_RECORD
-                && is_lot_record(record),
+                && (is_lot_record(record) || is_land_record(record)),
+            LotPattern::LandRecord => is_land_record(record),
             LotPattern::CutAcres => is_cut_record(record),
+            LotPattern::BareSection => is_of_bare_section(record),
             LotPattern::Worded(place) => place == field && is_worded(record.text(field)),
             LotPattern::DecimalComma => is_decimal_comma(record.text(field)),
             LotPattern::WithUnit => is_with_unit(record.text(field)),
@@ -125,6 +133,27 @@ fn is_lot_record(record: &Record<'_>) -> bool {
     record.len() == FIELDS
         && is_short_number(record.text(0), 2)
         && is_short_number(record.text(1), 2)
+}
+
+/// Whether a record has four fields, of which the first is a short number, and the last looks like land.
+fn is_land_record(record: &Record<'_>) -> bool {
+    record.len() == LAND_FIELDS
+        && is_short_number(record.text(0), 2)
+        && is_like_land(record.text(3))
+}
+
+/// Whether a text begins with a direction, and contains a fraction or nothing but directions.
+fn is_like_land(text: &[u8]) -> bool {
+    matches!(text.first(), Some(b'N' | b'S' | b'E' | b'W'))
+        && (text.contains(&b'/') || is_letters(text))
+}
+
+/// Whether a record is for a lot of a section in which a regular township has no lots.
+fn is_of_bare_section(record: &Record<'_>) -> bool {
+    match numbers_in(record) {
+        Some(numbers) => numbers.lot > 0 && StandardLots.next_lot(numbers.section, 0).is_none(),
+        None => false,
+    }
 }
 
 /// Whether a record has four fields, all numbers, of which the last one may be the decimals of the third.

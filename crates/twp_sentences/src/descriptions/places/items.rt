@@ -3,7 +3,7 @@ ghost use Rattle.std.specs.Prelude.{◌≡◌, ◌↔◌, ℕ, length, IsTrue, M
 ghost use Rattle.twp_grid.specs.Winding.{IsSection};
 ghost use Rattle.twp_resolve.specs.PlaceFaults.{start_of};
 ghost use Rattle.twp_sentences.specs.Underlined.{IsItemSpan};
-ghost use Rattle.twp_sentences.specs.steps.NamedNumbers.{HasNoNumberAt, HasNumberAt, IsNumberAt, IsOneOf};
+ghost use Rattle.twp_sentences.specs.steps.NamedNumbers.{HasNoNumberAt, HasNumberAt, IsNumberAt, IsOneOfTwo};
 ghost use Rattle.twp_sentences.specs.steps.NamedNumbers.{IsSectionAfter, IsSectionOfNumber, NoneHasNumberAt};
 
 use twp_diagnose::{chain_span, heading_span, range_span, token_span};
@@ -100,7 +100,7 @@ fn number_in(item: &Item, at: u32) -> Option<u16>
 
 /// The one of two numbers that is at a place, the first if both are.
 fn one_of(first: Numeral, last: Numeral, at: u32) -> Option<u16>
-    ensures { MatchOption result ((value : ℕ) → ¬ IsOneOf at first last value) (IsOneOf at first last) }
+    ensures { MatchOption result ((value : ℕ) → ¬ IsOneOfTwo at first last value) (IsOneOfTwo at first last) }
 {
     if first.at == at {
         Some(first.value)

@@ -3,7 +3,7 @@ ghost use Rattle.std.specs.Prelude.{◌≡◌, ◌≤◌, ◌<◌, ◌++◌, len
 ghost use Rattle.std.specs.Prelude.{IfOk, IfSome};
 ghost use Rattle.std.specs.Fmt.{decimal};
 ghost use Rattle.twp_diagnose.specs.RecordFields.{is_comma};
-ghost use Rattle.twp_grid.specs.Lands.{LOT_NUMBER_MOST, HasLot, lotting};
+ghost use Rattle.twp_grid.specs.Lands.{LOT_NUMBER_MOST, HasLot, IsNextLot, lotting};
 
 use std::alloc::{AllocError, Global};
 use twp_diagnose::PartOfLots;
@@ -90,6 +90,44 @@ pub(crate) fn write_lots_of<P: Lotting>(
     }
     write!(out, "section {} has lots ", number)?;
     write_ranges(section, lots, out)
+}
+
+/// Appends the lots nearest to a number, if it is in a gap between lots of the section.
+pub(crate) fn write_nearest_lots<P: Lotting>(
+    section: Section,
+    number: u16,
+    lots: &P,
+    out: &mut String,
+) -> Result<(), AllocError> {
+    match gap_around(section, number, lots) {
+        Some(gap) => write!(out, "the nearest lots are {} and {}", gap.before, gap.after),
+        None => Ok(()),
+    }
+}
+
+/// The lots before and after numbers that a section lacks.
+#[derive(Clone, Copy)]
+struct LotGap {
+    before: u8,
+    after: u8,
+}
+
+/// The gap that contains a number: the lots on both sides of it. None for a lot, and for a number before the
+/// first lot or after the last.
+fn gap_around<P: Lotting>(section: Section, number: u16, lots: &P) -> Option<LotGap>
+    ensures inside { IfSome result (λ gap. (gap.before < number) × (number < gap.after)) }
+    ensures nearest { IfSome result (λ gap. HasLot (lotting (P.layout lots.now)) section gap.before
+        × IsNextLot (lotting (P.layout lots.now)) section gap.before gap.after) }
+{
+    let mut before = lots.next_lot(section, 0)?;
+    while u16::from(before) < number {
+        let after = lots.next_lot(section, before)?;
+        if u16::from(after) > number {
+            return Some(LotGap { before, after });
+        }
+        before = after;
+    }
+    None
 }
 
 /// Lots of a section, from the first to the last of a range without a gap.
