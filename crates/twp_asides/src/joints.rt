@@ -125,8 +125,14 @@ impl<'a> Pieces<'a> {
         let next = plus(index, 2);
         self.is(index, b"s")
             && self.has_digits(plus(index, 1), 2)
-            && self.begins_land(next)
+            && (self.begins_land(next) || self.is_lot_with_number(next))
             && !self.is_joined(next)
+    }
+
+    /// Whether the letter for a lot is at an index, and its number is joined to it.
+    fn is_lot_with_number(&self, index: usize) -> bool {
+        let number = plus(index, 1);
+        self.is(index, b"l") && self.is_joined(number) && self.number(number).is_some()
     }
 
     /// Whether a section follows at an index, after aliquot parts without marks.
@@ -185,8 +191,8 @@ impl<'a> Pieces<'a> {
             && (self.begins_land(land) || is_lot)
     }
 
-    /// Whether a hyphen without white space is at an index, after a number, and `all` or a part with its fraction after it,
-    /// as in `8-ALL`, or `17-N2`.
+    /// Whether a hyphen without white space is at an index, after a number, and `all` or a part
+    /// with its fraction after it, as in `8-ALL`, or `17-N2`.
     pub fn is_before_hyphen_and_land(&self, index: usize) -> bool {
         let land = plus(index, 1);
         let is_land = matches!(self.kind(land), Kind::All) || is_sure_part(self, land);

@@ -12,8 +12,9 @@ use twp_words::{
 /// The most pieces of what is said before land without a mark at its end.
 const LEAD_MOST: usize = 32;
 
-/// Whether land is at an index, after what leads to it without a mark, as in `lease covers the SW1/4`: a word for title,
-/// a lease, or the like is among the words before it, and none that may say where in the land something is.
+/// Whether land is at an index, after what leads to it without a mark, as in
+/// `lease covers the SW1/4`: a word for title, a lease, or the like is among the words before it,
+/// and none that may say where in the land something is.
 pub(crate) fn ends_lead(pieces: &Pieces<'_>, index: usize) -> bool {
     let Some(last) = index.checked_sub(1) else {
         return false;
@@ -41,8 +42,9 @@ pub(crate) fn ends_lead(pieces: &Pieces<'_>, index: usize) -> bool {
     false
 }
 
-/// Whether `the` and a part are at an index, after a verb, or who it is for, as in `I give my wife the SW1/4`; or a word
-/// that leads to land without more, as in `will sign for the W/2`.
+/// Whether what is before an index leads to the land there without a word for title: `the` and a
+/// part after a verb or a person, as in `I give my wife the SW1/4`, or a word such as `for`, as in
+/// `will sign for the W/2`.
 fn is_plain_lead(pieces: &Pieces<'_>, index: usize, last: usize) -> bool {
     let word = pieces.lower(last);
     let is_word = matches!(pieces.kind(last), Kind::Other)
@@ -61,8 +63,8 @@ fn is_plain_lead(pieces: &Pieces<'_>, index: usize, last: usize) -> bool {
         || is_same(word, b"covering")
 }
 
-/// Whether a section, a township, or an aliquot part is at an index that can be nothing else, after the names and the
-/// instrument of a record, as in `QCD AMES TO DOYLE NWSE 17-2N-3W`.
+/// Whether a section, a township, or an aliquot part is at an index that can be nothing else, after
+/// the names and the instrument of a record, as in `QCD AMES TO DOYLE NWSE 17-2N-3W`.
 pub(crate) fn ends_record(pieces: &Pieces<'_>, index: usize) -> bool {
     let is_place = matches!(pieces.kind(index), Kind::Sec) || pieces.is_township_word(index);
     if !is_place && !is_sure_part(pieces, index) {

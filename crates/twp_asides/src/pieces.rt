@@ -120,12 +120,23 @@ impl<'a> Pieces<'a> {
     pub fn is(&self, index: usize, text: &[u8]) -> bool {
         match self.list.get(index) {
             Some(piece) => {
-                piece.begins_as(text)
-                    && (text.len() == 1
-                        || self.lower.get(piece.start..piece.end).unwrap_or(b"") == text)
+                piece.begins_as(text) && (text.len() == 1 || self.goes_on_as(piece.start, text))
             }
             None => text.is_empty(),
         }
+    }
+
+    /// Whether the text from a place on, in lowercase, begins with another, which is short.
+    /// Comparing two slices takes three times as long as a few bytes.
+    #[inline(never)]
+    fn goes_on_as(&self, start: usize, text: &[u8]) -> bool {
+        let rest = self.lower.get(start..).unwrap_or(b"");
+        for (one, other) in rest.iter().zip(text) {
+            if one != other {
+                return false;
+            }
+        }
+        rest.len() >= text.len()
     }
 
     /// Whether the text from the piece at an index on, in lowercase, begins with another.
@@ -234,8 +245,8 @@ impl<'a> Pieces<'a> {
         }
     }
 
-    /// The index of the value after the quote at an index, if that ends a name in a record, as in `"sec":14`, or
-    /// `"legal":"NENE"`.
+    /// The index of the value after the quote at an index, if that ends a name in a record, as in
+    /// `"sec":14`, or `"legal":"NENE"`.
     pub fn after_quoted_name(&self, index: usize) -> Option<usize> {
         let colon = plus(index, 1);
         let value = plus(index, 2);
@@ -306,12 +317,16 @@ impl<'a> Pieces<'a> {
         white.unwrap_or(b"").contains(&byte)
     }
 
-    /// Whether the piece at an index is a hyphen or a dash.
+    /// Whether the piece at an index is a hyphen or a dash. Most pieces are of another kind.
+    #[inline(always)]
     pub fn is_dash(&self, index: usize) -> bool {
-        matches!(self.kind(index), Kind::BadByte)
-            && (self.is(index, b"-")
-                || self.is(index, b"\xE2\x80\x93")
-                || self.is(index, b"\xE2\x80\x94"))
+        matches!(self.kind(index), Kind::BadByte) && self.is_mark_of_dash(index)
+    }
+
+    /// The same for a mark.
+    #[inline(never)]
+    fn is_mark_of_dash(&self, index: usize) -> bool {
+        self.is(index, b"-") || self.is(index, b"\xE2\x80\x93") || self.is(index, b"\xE2\x80\x94")
     }
 
     /// The value of the number at an index.

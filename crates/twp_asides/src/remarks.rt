@@ -134,7 +134,7 @@ fn leaves_remark(pieces: &Pieces<'_>, index: usize, place: usize, position: Posi
     is_limit
         || (pieces.may_be_section(place)
             && !may_be_well(pieces, index, place, position)
-            && !(position == Position::BeforeLand && pieces.follows(place, b"#")))
+            && !pieces.follows(place, b"#"))
         || (is_beyond_remark(pieces, place) && !is_name_of_water(pieces, place, position))
 }
 

@@ -1,6 +1,6 @@
 //! What phrases of a text say again, as in parentheses.
 
-use crate::draft::{Draft, Extent};
+use crate::draft::{Checkpoint, Draft};
 use crate::phrase::IndexRange;
 use std::alloc::Global;
 use std::mem;
@@ -26,8 +26,8 @@ pub struct Again<'a> {
 }
 
 impl<'a> Draft<'a> {
-    /// Notes that some pieces say land again, with the changes that were added after an extent.
-    pub fn add_said(&mut self, first: usize, end: usize, from: Extent) {
+    /// Notes that some pieces say land again, with the changes that were added after a checkpoint.
+    pub fn add_said(&mut self, first: usize, end: usize, from: Checkpoint) {
         let start = self.pieces.start(first);
         let before = self.again.changes.len();
         for index in from.changes..self.changes.len() {

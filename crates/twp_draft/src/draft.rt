@@ -52,17 +52,17 @@ const STEPS_FIRST: usize = 8;
 
 const NUMBERS_FIRST: usize = 8;
 
-/// How much of a draft there is.
+/// How many changes, steps, and numbers a draft had at a point to which it can be shrunk.
 #[derive(Clone, Copy)]
-pub struct Extent {
+pub struct Checkpoint {
     pub(crate) changes: usize,
     pub(crate) steps: usize,
     pub(crate) numbers: usize,
 }
 
-impl Extent {
+impl Checkpoint {
     /// How many more steps there are than there were.
-    pub fn steps_after(self, from: Extent) -> usize {
+    pub fn steps_after(self, from: Checkpoint) -> usize {
         self.steps.saturating_sub(from.steps)
     }
 }
@@ -98,25 +98,25 @@ impl<'a> Draft<'a> {
         self.numbers.reserve(NUMBERS_FIRST)
     }
 
-    /// How much there is.
-    pub fn extent(&self) -> Extent {
-        Extent {
+    /// A checkpoint at what there is now.
+    pub fn checkpoint(&self) -> Checkpoint {
+        Checkpoint {
             changes: self.changes.len(),
             steps: self.steps.len(),
             numbers: self.numbers.len(),
         }
     }
 
-    /// Forgets what was added after that.
-    pub fn shrink(&mut self, extent: Extent) {
-        self.changes.truncate(extent.changes);
-        self.steps.truncate(extent.steps);
-        self.numbers.truncate(extent.numbers);
+    /// Forgets what was added after a checkpoint.
+    pub fn shrink(&mut self, checkpoint: Checkpoint) {
+        self.changes.truncate(checkpoint.changes);
+        self.steps.truncate(checkpoint.steps);
+        self.numbers.truncate(checkpoint.numbers);
     }
 
-    /// Forgets the changes that were added after that.
-    pub fn shrink_changes(&mut self, extent: Extent) {
-        self.changes.truncate(extent.changes);
+    /// Forgets the changes that were added after a checkpoint.
+    pub fn shrink_changes(&mut self, checkpoint: Checkpoint) {
+        self.changes.truncate(checkpoint.changes);
     }
 
     /// Fails if memory was refused for something that was to be added. A single addition doesn't fail: the

@@ -13,8 +13,8 @@ mod phrases;
 mod steps;
 
 pub use again::{Again, Said};
-pub use draft::{Draft, Extent, LastSection};
+pub use draft::{Checkpoint, Draft, LastSection};
 pub use finds_phrases::FindsPhrases;
 pub use numerals::WrittenNumber;
-pub use phrase::{Form, IndexRange, LeftOut, Names, Phrase, Placed, Role};
+pub use phrase::{Form, IndexRange, LeftOut, Phrase, PhraseKind, Placed, Role};
 pub use steps::{PlacedStep, Thereof};

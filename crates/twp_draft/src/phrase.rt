@@ -2,9 +2,9 @@
 
 use twp_rules::Rule;
 
-/// What a phrase names.
+/// What a phrase names, if it names anything.
 #[derive(Clone, Copy, PartialEq, Eq)]
-pub enum Names {
+pub enum PhraseKind {
     /// A township and range.
     Heading,
     /// A section, or several.
@@ -54,7 +54,7 @@ impl LeftOut {
 /// A phrase of a text. Its small fields are together, so that it takes less room.
 #[derive(Clone, Copy)]
 pub struct Phrase {
-    pub names: Names,
+    pub kind: PhraseKind,
     /// How it is written.
     pub form: Form,
     /// The index of its first piece.

@@ -1,13 +1,13 @@
 //! The phrases of a draft.
 
-use crate::draft::{Draft, Extent};
-use crate::phrase::{Form, IndexRange, Names, Phrase, Placed, Role};
+use crate::draft::{Checkpoint, Draft};
+use crate::phrase::{Form, IndexRange, Phrase, PhraseKind, Placed, Role};
 
 impl<'a> Draft<'a> {
-    /// A phrase of some pieces, with what was added after an extent.
-    pub fn phrase(&self, names: Names, first: usize, end: usize, from: Extent) -> Phrase {
+    /// A phrase of some pieces, with what was added after a checkpoint.
+    pub fn phrase(&self, kind: PhraseKind, first: usize, end: usize, from: Checkpoint) -> Phrase {
         Phrase {
-            names,
+            kind,
             form: Form::Plain,
             first,
             end,
@@ -26,18 +26,18 @@ impl<'a> Draft<'a> {
         }
     }
 
-    /// The phrase before.
-    pub fn last_names(&self) -> Option<Names> {
+    /// The kind of the last phrase.
+    pub fn last_kind(&self) -> Option<PhraseKind> {
         match self.phrases.last() {
-            Some(placed) => Some(placed.phrase.names),
+            Some(placed) => Some(placed.phrase.kind),
             None => None,
         }
     }
 
     /// Adds a phrase.
     pub fn add_phrase(&mut self, phrase: Phrase) {
-        let role = match phrase.names {
-            Names::Nothing(_) => Role::LeftOut,
+        let role = match phrase.kind {
+            PhraseKind::Nothing(_) => Role::LeftOut,
             _ => Role::Kept(0),
         };
         let placed = Placed {
@@ -50,11 +50,11 @@ impl<'a> Draft<'a> {
         }
     }
 
-    /// Adds a phrase of some pieces, with what was added after an extent: the index after it. The search
+    /// Adds a phrase of some pieces, with what was added after a checkpoint: the index after it. The search
     /// returns only this index, since each function that passed a phrase on would clear room for it, and copy
     /// it.
-    pub fn add(&mut self, names: Names, first: usize, end: usize, from: Extent) -> usize {
-        let phrase = self.phrase(names, first, end, from);
+    pub fn add(&mut self, kind: PhraseKind, first: usize, end: usize, from: Checkpoint) -> usize {
+        let phrase = self.phrase(kind, first, end, from);
         self.add_phrase(phrase);
         end
     }

@@ -28,7 +28,7 @@ phrase_at phrases text at = find (is_at text at) phrases
 
 -- the next phrase from a place on: it begins at the leftmost place at which there is one, and is the first of
 -- the list that is there
-pub record IsNext (phrases : List (List ℕ)) (text : List ℕ) (from : ℕ) (found : Stretch) : Type 0 where
+pub record IsNextPhrase (phrases : List (List ℕ)) (text : List ℕ) (from : ℕ) (found : Stretch) : Type 0 where
   pub after : from ≤ found.start
   pub leftmost : (at : ℕ) → from ≤ at → at < found.start → phrase_at phrases text at ≡ None
   pub phrase : List ℕ
@@ -40,7 +40,7 @@ abbrev pub AreFrom : List (List ℕ) → List ℕ → ℕ → List Stretch → T
 AreFrom phrases text from [] =
     (at : ℕ) → from ≤ at → at < length text → phrase_at phrases text at ≡ None
 AreFrom phrases text from (found ∷ more) =
-    IsNext phrases text from found × AreFrom phrases text found.end more
+    IsNextPhrase phrases text from found × AreFrom phrases text found.end more
 
 -- WHERE THE PHRASES ARE in a text, from left to right
 abbrev pub AreSetAside : List (List ℕ) → List ℕ → List Stretch → Type 0

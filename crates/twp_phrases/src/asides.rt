@@ -2,7 +2,7 @@
 
 use crate::finder::Finder;
 use twp_asides::{end_of_trailer, plus};
-use twp_draft::{LeftOut, Names};
+use twp_draft::{LeftOut, PhraseKind};
 use twp_grammar::Kind;
 use twp_rules::Rule;
 
@@ -16,10 +16,13 @@ impl<'a> Finder<'a> {
     /// What is left out at an index.
     #[inline(never)]
     pub(crate) fn aside(&mut self, index: usize) -> Option<usize> {
-        let from = self.draft.extent();
+        let from = self.draft.checkpoint();
         let pieces = &self.draft.pieces;
         if let Some((left_out, end)) = self.end_of_aside(index) {
-            return Some(self.draft.add(Names::Nothing(left_out), index, end, from));
+            return Some(
+                self.draft
+                    .add(PhraseKind::Nothing(left_out), index, end, from),
+            );
         }
         if matches!(pieces.kind(index), Kind::Number(_)) {
             return None;
@@ -36,7 +39,7 @@ impl<'a> Finder<'a> {
     /// `being` at an index, also in parentheses, with all land that was named before it, as in
     /// `All, being Lots 1 thru 7, ..`
     fn being(&mut self, index: usize) -> Option<usize> {
-        let from = self.draft.extent();
+        let from = self.draft.checkpoint();
         let pieces = &self.draft.pieces;
         let is_in_parentheses = pieces.is(index, b"(");
         let word = if is_in_parentheses {
@@ -67,7 +70,7 @@ impl<'a> Finder<'a> {
         }
         let last = plus(end, usize::from(is_closed));
         self.draft
-            .add(Names::Nothing(LeftOut::Repeated), index, last, from);
+            .add(PhraseKind::Nothing(LeftOut::Repeated), index, last, from);
         self.draft.add_said(first, said, from);
         Some(last)
     }
@@ -118,8 +121,8 @@ impl<'a> Finder<'a> {
         let pieces = &self.draft.pieces;
         // After all of a section, or after acreage, the dash may be a minus.
         let may_be_minus = matches!(
-            self.draft.last_names(),
-            Some(Names::All | Names::Nothing(LeftOut::Acreage))
+            self.draft.last_kind(),
+            Some(PhraseKind::All | PhraseKind::Nothing(LeftOut::Acreage))
         );
         let is_figure = pieces.number(index).is_some();
         if !is_figure {
@@ -127,32 +130,13 @@ impl<'a> Finder<'a> {
                 return Some(found);
             }
         }
-        if let Some(end) = pieces.end_of_item_number(index) {
+        if let Some(end) = self.end_of_label_by_kind(index, is_figure) {
             return Some((LeftOut::Label, end));
         }
-        if let Some(end) = pieces.end_of_row_id(index) {
-            return Some((LeftOut::Label, end));
-        }
-        if let Some(end) = pieces.end_of_unit(index, self.names_land) {
-            return Some((LeftOut::Label, end));
-        }
-        let fixed = if self.names_land {
-            pieces
-                .end_of_words_after(index)
-                .or(pieces.end_of_tax_parcel(index))
-                .or(pieces.end_of_net(index))
-                .or(pieces.end_of_years(index))
-                .or(pieces.end_of_lettered_share(index))
-                .or(pieces.end_of_money(index))
-                .or(pieces.end_of_decimal_interest(index))
-        } else {
-            pieces.end_of_words_before(index)
-        };
-        if let Some(end) = fixed {
-            return Some((LeftOut::Label, end));
-        }
-        if let Some(end) = pieces.end_of_gross(index) {
-            return Some((LeftOut::Acreage, end));
+        if is_figure {
+            if let Some(end) = pieces.end_of_gross(index) {
+                return Some((LeftOut::Acreage, end));
+            }
         }
         if let Some(end) = pieces.end_of_acreage(index) {
             let is_after_dash = pieces.is_after_dash(index);
@@ -168,44 +152,30 @@ impl<'a> Finder<'a> {
                 Some((LeftOut::Acreage, end))
             };
         }
-        if let Some(end) = pieces.end_of_known_acreage(index) {
-            return Some((LeftOut::Acreage, end));
+        let is_mark = matches!(pieces.kind(index), Kind::BadByte);
+        if is_mark {
+            if let Some(end) = pieces.end_of_known_acreage(index) {
+                return Some((LeftOut::Acreage, end));
+            }
         }
         if let Some(end) = pieces.end_of_first_serial(index) {
             return Some((LeftOut::Label, end));
         }
         // A mark begins nothing else, but for the one after a question.
-        if matches!(pieces.kind(index), Kind::BadByte) && !pieces.is_question_mark(index) {
+        if is_mark && !pieces.is_question_mark(index) {
             return None;
         }
         if let Some(end) = pieces.end_of_meridian(index) {
             return Some((LeftOut::Meridian, end));
         }
-        if self.draft.last_names() == Some(Names::Heading) {
+        if self.draft.last_kind() == Some(PhraseKind::Heading) {
             if let Some(end) = pieces.end_of_bare_meridian(index) {
                 return Some((LeftOut::Meridian, end));
             }
         }
         if self.names_land {
-            let unsaid = pieces
-                .end_of_intent(index)
-                .or(pieces.end_of_tax_parcel(index))
-                .or(pieces.end_of_gross_acreage(index));
-            if let Some(end) = unsaid {
-                return Some((LeftOut::Label, end));
-            }
-            if self.draft.last_names() != Some(Names::Sections) {
-                if let Some(end) = pieces.end_of_share_in_cell(index) {
-                    return Some((LeftOut::Label, end));
-                }
-            }
-            if let Some(end) = pieces.end_of_last_figure(index) {
-                if !self.may_be_wrong_section(index, end) {
-                    return Some((LeftOut::Acreage, end));
-                }
-            }
-            if let Some(end) = end_of_trailer(&self.draft.pieces, index) {
-                return Some((LeftOut::Label, end));
+            if let Some(found) = self.end_of_aside_after_land(index, is_figure) {
+                return Some(found);
             }
         }
         if is_figure && !pieces.begins_line(index) {
@@ -215,13 +185,91 @@ impl<'a> Finder<'a> {
         Some((LeftOut::Label, end))
     }
 
-    /// Whether a whole number after a township that isn't that of a section before it, with more of its row after
-    /// it, may be that of a section with a slip.
+    /// Where a label at an index ends that is looked for before acreage. A word of two letters or
+    /// more is no number of a row or an item, and only a number is a share or a term.
+    fn end_of_label_by_kind(&self, index: usize, is_figure: bool) -> Option<usize> {
+        let pieces = &self.draft.pieces;
+        let is_word = matches!(pieces.kind(index), Kind::Other) && pieces.size(index) > 1;
+        if !is_word {
+            if let Some(end) = pieces.end_of_item_number(index) {
+                return Some(end);
+            }
+            if let Some(end) = pieces.end_of_row_id(index) {
+                return Some(end);
+            }
+        }
+        if let Some(end) = pieces.end_of_unit(index, self.names_land) {
+            return Some(end);
+        }
+        if !self.names_land {
+            return pieces.end_of_words_before(index);
+        }
+        if is_figure {
+            return self.end_of_figure_after_land(index);
+        }
+        if let Some(end) = pieces.end_of_words_after(index) {
+            return Some(end);
+        }
+        if let Some(end) = pieces.end_of_tax_parcel(index) {
+            return Some(end);
+        }
+        if let Some(end) = pieces.end_of_lettered_share(index) {
+            return Some(end);
+        }
+        pieces.end_of_money(index)
+    }
+
+    /// Where a net figure, a term of years, or a decimal interest at an index ends.
+    fn end_of_figure_after_land(&self, index: usize) -> Option<usize> {
+        let pieces = &self.draft.pieces;
+        if let Some(end) = pieces.end_of_net(index) {
+            return Some(end);
+        }
+        if let Some(end) = pieces.end_of_years(index) {
+            return Some(end);
+        }
+        pieces.end_of_decimal_interest(index)
+    }
+
+    /// What is left out at an index after land, if it is nothing that may be before land.
+    fn end_of_aside_after_land(&self, index: usize, is_figure: bool) -> Option<(LeftOut, usize)> {
+        let pieces = &self.draft.pieces;
+        if is_figure {
+            return self.end_of_last_number(index);
+        }
+        if let Some(end) = pieces.end_of_intent(index) {
+            return Some((LeftOut::Label, end));
+        }
+        if let Some(end) = pieces.end_of_gross_acreage(index) {
+            return Some((LeftOut::Label, end));
+        }
+        let end = end_of_trailer(pieces, index)?;
+        Some((LeftOut::Label, end))
+    }
+
+    /// What a number at an index is after land: a share in a cell, or acreage.
+    fn end_of_last_number(&self, index: usize) -> Option<(LeftOut, usize)> {
+        let pieces = &self.draft.pieces;
+        if self.draft.last_kind() != Some(PhraseKind::Sections) {
+            if let Some(end) = pieces.end_of_share_in_cell(index) {
+                return Some((LeftOut::Label, end));
+            }
+        }
+        let end = pieces.end_of_last_figure(index)?;
+        if self.may_be_wrong_section(index, end) {
+            return None;
+        }
+        Some((LeftOut::Acreage, end))
+    }
+
+    /// Whether a whole number after a township that isn't that of a section before it, with more of
+    /// its row after it, may be that of a section with a slip.
     fn may_be_wrong_section(&self, index: usize, end: usize) -> bool {
         let pieces = &self.draft.pieces;
         let is_after_heading = match self.draft.phrases.as_slice() {
             [.., before, last] => {
-                last.phrase.names == Names::Heading && before.phrase.names != Names::Sections
+                last.phrase.kind == PhraseKind::Heading
+                    && before.phrase.kind != PhraseKind::Sections
             }
             _ => false,
         };
@@ -241,7 +289,8 @@ impl<'a> Finder<'a> {
     /// The same, of what begins with a word for a column, or with a mark.
     fn end_of_marked(&self, index: usize, may_be_minus: bool) -> Option<(LeftOut, usize)> {
         let pieces = &self.draft.pieces;
-        if let Some(end) = pieces.end_of_column_label(index) {
+        if matches!(pieces.kind(index), Kind::Other) {
+            let end = pieces.end_of_column_label(index)?;
             let is_part = pieces.is(plus(index, 1), b"part");
             let left_out = if is_part {
                 LeftOut::Heading
@@ -249,6 +298,9 @@ impl<'a> Finder<'a> {
                 LeftOut::Label
             };
             return Some((left_out, end));
+        }
+        if !matches!(pieces.kind(index), Kind::BadByte) {
+            return None;
         }
         if let Some(end) = self.end_of_figure(index) {
             return Some((LeftOut::Acreage, end));
@@ -267,7 +319,7 @@ impl<'a> Finder<'a> {
         let pieces = &self.draft.pieces;
         let close_mark: &'static [u8] = if pieces.is(index, b"[") { b"]" } else { b")" };
         if !(pieces.is(index, b"(") || pieces.is(index, b"["))
-            || self.draft.last_names() != Some(Names::Part)
+            || self.draft.last_kind() != Some(PhraseKind::Part)
         {
             return None;
         }
@@ -284,10 +336,10 @@ impl<'a> Finder<'a> {
 
     /// The parentheses at an index with the land before them again.
     fn repeated(&mut self, index: usize) -> Option<usize> {
-        let from = self.draft.extent();
+        let from = self.draft.checkpoint();
         let being = self.draft.pieces.after_being(plus(index, 1));
         let first = self.draft.pieces.after_all_of(being);
-        let before = self.draft.last_names()?;
+        let before = self.draft.last_kind()?;
         let land = if matches!(self.draft.pieces.kind(first), Kind::All) {
             plus(first, 1)
         } else {
@@ -299,7 +351,7 @@ impl<'a> Finder<'a> {
             None
         };
         let close = acreage.unwrap_or(land);
-        let is_land = matches!(before, Names::Part | Names::Lots);
+        let is_land = matches!(before, PhraseKind::Part | PhraseKind::Lots);
         let mark: &'static [u8] = if self.draft.pieces.is(index, b"[") {
             b"]"
         } else {
@@ -313,12 +365,12 @@ impl<'a> Finder<'a> {
         self.draft.shrink_changes(from);
         Some(
             self.draft
-                .add(Names::Nothing(LeftOut::Repeated), index, end, from),
+                .add(PhraseKind::Nothing(LeftOut::Repeated), index, end, from),
         )
     }
 
-    /// Where the lots and parts at an index end, which commas, `and`, or white space divide, as in `(L1 L2 E2NW, NE)`; or
-    /// one part, of which white space may be between two steps.
+    /// Where the lots and parts at an index end, which commas, `and`, or white space divide, as in
+    /// `(L1 L2 E2NW, NE)`; or one part, of which white space may be between two steps.
     fn lands_in_pieces(&mut self, index: usize) -> Option<usize> {
         let is_list = self.is_lot_at(index);
         if !is_list {

@@ -2,7 +2,7 @@
 
 use crate::finder::Finder;
 use twp_asides::plus;
-use twp_draft::{Form, LeftOut, Names, WrittenNumber};
+use twp_draft::{Form, LeftOut, PhraseKind, WrittenNumber};
 use twp_grammar::Kind;
 use twp_rules::Rule;
 
@@ -13,7 +13,10 @@ impl<'a> Finder<'a> {
     /// The section of a location, as in `S14 T2N R3W`.
     #[inline(never)]
     pub(crate) fn section_of_letter(&mut self, index: usize) -> Option<usize> {
-        let from = self.draft.extent();
+        if !self.draft.pieces.is(index, b"s") {
+            return None;
+        }
+        let from = self.draft.checkpoint();
         let digits = self.digits_of_letter(index);
         let Some(number) = self.number_of_letter(index, digits) else {
             return None;
@@ -39,21 +42,30 @@ impl<'a> Finder<'a> {
         self.draft
             .leave_out_each(plus(index, 1), digits, Rule::Mark);
         self.draft.write_numeral(number);
-        Some(self.draft.add(Names::Sections, index, next, from))
+        Some(self.draft.add(PhraseKind::Sections, index, next, from))
     }
 
     /// The index of the number after the letter for a section at an index, and after a period, as in
     /// `S. 15, T. 2 N.`, or a colon, as in `S:15`: no half has such a number.
-    fn digits_of_letter(&self, index: usize) -> usize {
+    pub(crate) fn digits_of_letter(&self, index: usize) -> usize {
         let pieces = &self.draft.pieces;
         let next = plus(index, 1);
         let digits = plus(next, 1);
         let is_stop = pieces.is(next, b".")
             && pieces.is_joined(next)
             && !pieces.is_joined(digits)
-            && pieces.has_digits(digits, 2);
-        let is_colon = pieces.is(next, b":") && pieces.is_joined(next) && pieces.is_joined(digits);
+            && (pieces.has_digits(digits, 2) || pieces.is(plus(digits, 1), b":"));
+        let is_colon = pieces.is(next, b":") && pieces.is_joined(next);
         if is_stop || is_colon { digits } else { next }
+    }
+
+    /// Whether a number is at an index that is no fraction without its slash, nor a digit of one.
+    fn is_number_of_no_half(&self, index: usize) -> bool {
+        let pieces = &self.draft.pieces;
+        match pieces.number(index) {
+            Some(number) => !matches!(number, 0 | 1 | 2 | 4 | 12 | 14),
+            None => false,
+        }
     }
 
     /// The number of a section at an index after the letter for it.
@@ -61,8 +73,10 @@ impl<'a> Finder<'a> {
         let pieces = &self.draft.pieces;
         let next = plus(digits, 1);
         let has_stop = digits > plus(index, 1);
-        if !pieces.is(index, b"s")
-            || !(pieces.is_joined(digits) || has_stop || pieces.is_township_word(next))
+        if !(pieces.is_joined(digits)
+            || has_stop
+            || pieces.is_township_word(next)
+            || self.is_number_of_no_half(digits))
             || (pieces.is_joined(next) && !pieces.is_after_tag(next))
         {
             return None;
@@ -74,14 +88,14 @@ impl<'a> Finder<'a> {
     /// or a section before it that is written so, and a colon after it, or land.
     fn is_sure_letter(&self, index: usize) -> bool {
         let pieces = &self.draft.pieces;
-        let digits = plus(index, 1);
-        let is_before_colon = pieces.is(plus(index, 2), b":");
+        let digits = self.digits_of_letter(index);
+        let is_before_colon = pieces.is(plus(digits, 1), b":");
         let is_list = match self.draft.last_section {
             Some(section) => pieces.is(section.first, b"s"),
             None => false,
         };
-        (self.draft.last_names() == Some(Names::Heading)
-            && (is_before_colon || pieces.is(digits, b":") || pieces.bytes(digits).len() >= 2))
+        (self.draft.last_kind() == Some(PhraseKind::Heading)
+            && (is_before_colon || digits > plus(index, 1) || pieces.bytes(digits).len() >= 2))
             || (is_list && is_before_colon)
             || pieces.is_section_before_land(index)
             || self.is_section_after_land(index)
@@ -93,27 +107,28 @@ impl<'a> Finder<'a> {
     /// `SESW S31, L4 S31`: no half has such a number, with or without its slash.
     fn is_section_after_land(&self, index: usize) -> bool {
         let pieces = &self.draft.pieces;
-        let digits = plus(index, 1);
+        let digits = self.digits_of_letter(index);
         let end = plus(digits, 1);
         let is_after_land = match self.draft.phrases.last() {
             Some(placed) => {
                 placed.phrase.end == index
                     && matches!(
-                        placed.phrase.names,
-                        Names::Part | Names::Lots | Names::Nothing(LeftOut::Repeated)
+                        placed.phrase.kind,
+                        PhraseKind::Part | PhraseKind::Lots | PhraseKind::Nothing(LeftOut::Repeated)
                     )
             }
             None => false,
         };
-        let is_last = end >= pieces.len() || pieces.is(end, b",") || pieces.is(end, b";");
-        is_after_land
-            && is_last
-            && pieces.has_digits(digits, 2)
-            && !(pieces.is(digits, b"12") || pieces.is(digits, b"14"))
+        let is_last = end >= pieces.len()
+            || pieces.is(end, b",")
+            || pieces.is(end, b";")
+            || pieces.begins_column(end);
+        is_after_land && is_last && self.is_number_of_no_half(digits)
     }
 
-    /// Whether the letter and the number at an index, before a township that ends at another, may be a half of a
-    /// section that was named, or of one that is missing: `S2`, unless land follows. After land, `S4` isn't one.
+    /// Whether the letter and the number at an index, before a township that ends at another, may
+    /// be a half of a section that was named, or of one that is missing: `S2`, unless land follows.
+    /// After land, `S4` isn't one.
     fn may_be_half(&self, index: usize, heading: Option<usize>) -> bool {
         let pieces = &self.draft.pieces;
         let digits = plus(index, 1);
@@ -122,8 +137,8 @@ impl<'a> Finder<'a> {
             None => false,
         };
         let is_after_lots = matches!(
-            self.draft.last_names(),
-            Some(Names::Lots | Names::Nothing(LeftOut::Repeated))
+            self.draft.last_kind(),
+            Some(PhraseKind::Lots | PhraseKind::Nothing(LeftOut::Repeated))
         );
         (pieces.is(digits, b"2") || (pieces.is(digits, b"4") && !is_after_lots)) && !is_before_land
     }
@@ -131,8 +146,8 @@ impl<'a> Finder<'a> {
     /// The number of a section without a word for it.
     #[inline(never)]
     pub(crate) fn bare_section(&mut self, index: usize) -> Option<usize> {
-        let from = self.draft.extent();
-        let last = self.draft.last_names();
+        let from = self.draft.checkpoint();
+        let last = self.draft.last_kind();
         let pieces = &self.draft.pieces;
         let Some(number) = self.section_number(index) else {
             return None;
@@ -140,7 +155,7 @@ impl<'a> Finder<'a> {
         if !matches!(pieces.kind(index), Kind::Number(_)) {
             return None;
         }
-        let is_list = last == Some(Names::All)
+        let is_list = last == Some(PhraseKind::All)
             && (pieces.follows(index, b"of")
                 || matches!(pieces.kind_before(index), Some(Kind::All)))
             && !pieces.is_before_dash_and_tier(plus(index, 1));
@@ -157,11 +172,11 @@ impl<'a> Finder<'a> {
         self.draft.write(place, place, b"sec. ", Rule::SectionWord);
         self.draft.write_numeral(number);
         let end = if is_list {
-            self.numbers_after(number, Names::Sections, true)
+            self.numbers_after(number, PhraseKind::Sections, true)
         } else {
             number.end
         };
-        self.draft.add(Names::Sections, index, end, from);
+        self.draft.add(PhraseKind::Sections, index, end, from);
         if is_list {
             self.draft.note_form(Form::Plural);
         }
@@ -172,7 +187,7 @@ impl<'a> Finder<'a> {
     fn is_among_tracts(&self) -> bool {
         for placed in self.draft.phrases.iter().rev().take(PHRASES_MOST) {
             let phrase = &placed.phrase;
-            if phrase.names == Names::Nothing(LeftOut::Label)
+            if phrase.kind == PhraseKind::Nothing(LeftOut::Label)
                 && self.draft.pieces.is_label_of_tract(phrase.first)
             {
                 return true;
@@ -196,9 +211,11 @@ impl<'a> Finder<'a> {
                 }
             }
         }
-        match self.draft.last_names() {
-            Some(Names::Heading) => true,
-            Some(Names::Part | Names::All | Names::Lots) => pieces.follows(end, b")"),
+        match self.draft.last_kind() {
+            Some(PhraseKind::Heading) => true,
+            Some(PhraseKind::Part | PhraseKind::All | PhraseKind::Lots) => pieces.follows(
+                end, b")",
+            ),
             _ => false,
         }
     }
@@ -237,14 +254,16 @@ impl<'a> Finder<'a> {
         }
         self.is_before_end_or_and(next)
             || self.end_of_heading(next).is_some()
-            || (self.draft.pieces.follows(index, b"of") && self.is_before_dash_or_except(next))
+            || (self.draft.pieces.follows(index, b"of")
+                && (self.is_before_dash_or_except(next) || self.ends_number(next)))
     }
 
-    /// Whether the number at an index is before a township, and no land before it, as in `GRAZING LAND 11 2N 3W`.
+    /// Whether the number at an index is before a township, and no land before it, as in
+    /// `GRAZING LAND 11 2N 3W`.
     fn is_first_before_tier(&self, index: usize) -> bool {
         let pieces = &self.draft.pieces;
         let next = plus(index, 1);
-        let is_first = matches!(self.draft.last_names(), None | Some(Names::Nothing(_)));
+        let is_first = matches!(self.draft.last_kind(), None | Some(PhraseKind::Nothing(_)));
         is_first
             && !self.names_land
             && !pieces.is_joined(index)
@@ -258,20 +277,34 @@ impl<'a> Finder<'a> {
             || (self.draft.pieces.is_dash(index) && !self.draft.pieces.is_joined(index))
     }
 
+    /// Whether a mark or a new column ends the number of a section before an index, after a part
+    /// and `of`: a word may say what the number counts.
+    fn ends_number(&self, index: usize) -> bool {
+        let pieces = &self.draft.pieces;
+        pieces.begins_column(index)
+            || pieces.is(index, b",")
+            || pieces.is(index, b";")
+            || pieces.is(index, b"?")
+            || pieces.is(index, b"!")
+            || pieces.is(index, b")")
+            || (pieces.is(index, b".") && !pieces.is_joined(plus(index, 1)))
+    }
+
     /// Whether the piece at an index begins a row.
     fn begins_row(&self, index: usize) -> bool {
         self.draft.pieces.begins_line(index) || self.draft.pieces.follows(index, b";")
     }
 
-    /// Whether the number at an index is alone in a cell, after land that is in the cell after a township, as in the
-    /// rows of the Mineral and Land Records System: the row has no other section.
+    /// Whether the number at an index is alone in a cell, after land that is in the cell after a
+    /// township, as in the rows of the Mineral and Land Records System: the row has no other
+    /// section.
     fn is_cell_of_section(&self, index: usize) -> bool {
         let pieces = &self.draft.pieces;
         let is_cell = pieces.has_before(index, b'\t') && pieces.has_before(plus(index, 1), b'\t');
         let is_after_land = match self.draft.phrases.as_slice() {
             [.., heading, land] => {
-                heading.phrase.names == Names::Heading
-                    && matches!(land.phrase.names, Names::Part | Names::Lots)
+                heading.phrase.kind == PhraseKind::Heading
+                    && matches!(land.phrase.kind, PhraseKind::Part | PhraseKind::Lots)
                     && land.phrase.end == index
                     && pieces.has_before(land.phrase.first, b'\t')
             }
@@ -306,8 +339,11 @@ impl<'a> Finder<'a> {
     fn is_section_by_marks(&self, index: usize) -> Option<bool> {
         let pieces = &self.draft.pieces;
         let next = plus(index, 1);
-        let last = self.draft.last_names();
-        let is_first = matches!(last, None | Some(Names::Heading | Names::Nothing(_)));
+        let last = self.draft.last_kind();
+        let is_first = matches!(
+            last,
+            None | Some(PhraseKind::Heading | PhraseKind::Nothing(_))
+        );
         let is_after_semicolon = pieces.follows(index, b";");
         let is_apart = is_after_semicolon
             || pieces.follows(index, b",")
@@ -339,7 +375,7 @@ impl<'a> Finder<'a> {
         }
         let is_next = is_list
             && is_after_semicolon
-            && matches!(last, Some(Names::Part | Names::All))
+            && matches!(last, Some(PhraseKind::Part | PhraseKind::All))
             && pieces.begins_land(next)
             && !pieces.is_joined(next);
         if is_next { Some(true) } else { None }
@@ -350,7 +386,7 @@ impl<'a> Finder<'a> {
     fn is_section_by_place(&self, index: usize) -> Option<bool> {
         let pieces = &self.draft.pieces;
         let next = plus(index, 1);
-        let is_after_heading = self.draft.last_names() == Some(Names::Heading);
+        let is_after_heading = self.draft.last_kind() == Some(PhraseKind::Heading);
         let is_after_comma = pieces.follows(index, b",");
         if is_after_heading && !is_after_comma {
             return Some(true);
@@ -365,7 +401,10 @@ impl<'a> Finder<'a> {
             // Alone on its line, it may be that of a page.
             return Some(next < pieces.len() && !pieces.has_before(next, b'\n'));
         }
-        if self.draft.last_names() != Some(Names::Part)
+        if self.is_between_acreage_and_tier(index) {
+            return Some(true);
+        }
+        if self.draft.last_kind() != Some(PhraseKind::Part)
             || pieces.is_joined(index)
             || is_after_comma
             || pieces.follows(index, b";")
@@ -377,8 +416,21 @@ impl<'a> Finder<'a> {
         None
     }
 
-    /// Whether land is in the cell at an index, also after a quote or the words for government lots, or in the next
-    /// one, after the name of the column for aliquot parts.
+    /// Whether the number at an index stands between an acreage after land and a township, as in
+    /// `NW 160 acres 14 2N 3W`.
+    fn is_between_acreage_and_tier(&self, index: usize) -> bool {
+        let pieces = &self.draft.pieces;
+        let next = plus(index, 1);
+        self.draft.last_kind() == Some(PhraseKind::Nothing(LeftOut::Acreage))
+            && self.names_land
+            && !pieces.is_joined(index)
+            && !pieces.is_joined(next)
+            && !pieces.follows(index, b",")
+            && pieces.begins_tier(next)
+    }
+
+    /// Whether land is in the cell at an index, also after a quote or the words for government
+    /// lots, or in the next one, after the name of the column for aliquot parts.
     pub(crate) fn is_land_of_cell(&self, index: usize) -> bool {
         let pieces = &self.draft.pieces;
         let first = plus(index, usize::from(pieces.is(index, b"\"")));

@@ -4,7 +4,7 @@ use crate::finder::Finder;
 use crate::unread::{AMBIGUOUS_MOST, Ambiguity, AmbiguousPhrase, place_of};
 use std::alloc::AllocError;
 use twp_asides::plus;
-use twp_draft::Names;
+use twp_draft::PhraseKind;
 
 impl<'a> Finder<'a> {
     /// Notes the numbers after parts that are no sections, since no word, mark, or township says so.
@@ -28,7 +28,8 @@ impl<'a> Finder<'a> {
         Ok(())
     }
 
-    /// Whether the phrase at an index is a number after a part, and nothing says that it is that of a section.
+    /// Whether the phrase at an index is a number after a part, and nothing says that it is that of
+    /// a section.
     fn is_bare_after_part(&self, index: usize) -> bool {
         let Some(placed) = self.draft.phrases.get(index) else {
             return false;
@@ -43,27 +44,28 @@ impl<'a> Finder<'a> {
             Some(before) => self.is_part_up_to(before, phrase.first),
             None => false,
         };
-        matches!(phrase.names, Names::Sections)
+        matches!(phrase.kind, PhraseKind::Sections)
             && is_number
             && !is_marked
             && is_after_part
-            && self.names_at(plus(index, 1)) != Some(Names::Heading)
+            && self.kind_at(plus(index, 1)) != Some(PhraseKind::Heading)
     }
 
     /// Whether the phrase at an index is a part, and ends before a piece, with at most a mark between them.
     fn is_part_up_to(&self, index: usize, piece: usize) -> bool {
         match self.draft.phrases.get(index) {
             Some(placed) => {
-                matches!(placed.phrase.names, Names::Part) && piece <= plus(placed.phrase.end, 1)
+                matches!(placed.phrase.kind, PhraseKind::Part)
+                    && piece <= plus(placed.phrase.end, 1)
             }
             None => false,
         }
     }
 
-    /// What the phrase at an index names.
-    fn names_at(&self, index: usize) -> Option<Names> {
+    /// The kind of the phrase at an index.
+    fn kind_at(&self, index: usize) -> Option<PhraseKind> {
         match self.draft.phrases.get(index) {
-            Some(placed) => Some(placed.phrase.names),
+            Some(placed) => Some(placed.phrase.kind),
             None => None,
         }
     }

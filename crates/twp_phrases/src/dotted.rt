@@ -19,7 +19,7 @@ impl<'a> Finder<'a> {
         {
             return self.dotted_half(index);
         }
-        let extent = self.draft.extent();
+        let checkpoint = self.draft.checkpoint();
         self.leave_out_between(index, second);
         let fraction = self.after_stop(plus(second, 1));
         if fraction > plus(second, 1) {
@@ -28,7 +28,7 @@ impl<'a> Finder<'a> {
         }
         let after = self.dotted_fraction(fraction, Size::Quarter);
         if !self.are_letters(index, second) {
-            self.draft.shrink(extent);
+            self.draft.shrink(checkpoint);
             return None;
         }
         if let Some(after) = after {
@@ -37,7 +37,7 @@ impl<'a> Finder<'a> {
             self.push_step(begin, after, corner);
             return Some(after);
         }
-        self.draft.shrink(extent);
+        self.draft.shrink(checkpoint);
         self.dotted_letters(index, second, fraction)
     }
 
@@ -99,13 +99,13 @@ impl<'a> Finder<'a> {
         }
         let begin = pieces.start(index);
         let written = written_step(pieces.bytes(index));
-        let extent = self.draft.extent();
+        let checkpoint = self.draft.checkpoint();
         self.draft.leave_out(next, plus(next, 1), Rule::OnePart);
         if let Some(after) = self.dotted_fraction(plus(next, 1), Size::Half) {
             self.push_step(begin, after, written);
             return Some(after);
         }
-        self.draft.shrink(extent);
+        self.draft.shrink(checkpoint);
         None
     }
 

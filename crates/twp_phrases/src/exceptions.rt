@@ -2,7 +2,7 @@
 
 use crate::finder::Finder;
 use twp_asides::plus;
-use twp_draft::{Extent, Names, Phrase, Thereof};
+use twp_draft::{Checkpoint, Phrase, PhraseKind, Thereof};
 use twp_grammar::Kind;
 use twp_rules::Rule;
 use twp_words::excepts_land;
@@ -11,7 +11,7 @@ impl<'a> Finder<'a> {
     /// `except`, or words like it, at an index.
     #[inline(never)]
     pub(crate) fn except(&mut self, index: usize) -> Option<usize> {
-        let from = self.draft.extent();
+        let from = self.draft.checkpoint();
         let pieces = &self.draft.pieces;
         let Some(end) = self.after_except(index) else {
             return None;
@@ -28,7 +28,7 @@ impl<'a> Finder<'a> {
                 self.draft.leave_out(place, plus(place, 1), rule);
             }
         }
-        Some(self.draft.add(Names::Except, index, end, from))
+        Some(self.draft.add(PhraseKind::Except, index, end, from))
     }
 
     /// The index after words for an exception at an index.
@@ -95,8 +95,8 @@ impl<'a> Finder<'a> {
 
     /// Adds to an excepted part with `thereof` after it the steps of the part from which it is excepted, as
     /// in `NW1/4, except the SW1/4 thereof`. It is doubted if that may be another.
-    pub(crate) fn add_steps_of_whole(&mut self, first: usize, end: usize, from: Extent) {
-        let part = self.draft.phrase(Names::Part, first, end, from);
+    pub(crate) fn add_steps_of_whole(&mut self, first: usize, end: usize, from: Checkpoint) {
+        let part = self.draft.phrase(PhraseKind::Part, first, end, from);
         let whole = match self.whole_before_except() {
             Whole::Section => return,
             Whole::Part(whole) => whole,
@@ -137,18 +137,18 @@ impl<'a> Finder<'a> {
         let mut has_section = self.begins_with_section();
         for placed in self.draft.phrases.iter().rev() {
             let phrase = placed.phrase;
-            match phrase.names {
-                Names::Except if is_first => is_first = false,
-                Names::Nothing(_) | Names::Heading => {}
+            match phrase.kind {
+                PhraseKind::Except if is_first => is_first = false,
+                PhraseKind::Nothing(_) | PhraseKind::Heading => {}
                 // A section is after its land, or before it.
-                Names::Sections if matches!(whole, Whole::Section) && !has_section => {
+                PhraseKind::Sections if matches!(whole, Whole::Section) && !has_section => {
                     has_section = true;
                 }
-                Names::Sections => break,
-                Names::Part if !is_first && matches!(whole, Whole::Section) => {
+                PhraseKind::Sections => break,
+                PhraseKind::Part if !is_first && matches!(whole, Whole::Section) => {
                     whole = Whole::Part(phrase);
                 }
-                Names::All if !is_first && matches!(whole, Whole::Section) => return whole,
+                PhraseKind::All if !is_first && matches!(whole, Whole::Section) => return whole,
                 _ => return Whole::Unsure,
             }
         }
@@ -159,8 +159,8 @@ impl<'a> Finder<'a> {
     fn begins_with_section(&self) -> bool {
         for placed in &self.draft.phrases {
             let phrase = &placed.phrase;
-            if !matches!(phrase.names, Names::Nothing(_) | Names::Heading) {
-                return phrase.names == Names::Sections;
+            if !matches!(phrase.kind, PhraseKind::Nothing(_) | PhraseKind::Heading) {
+                return phrase.kind == PhraseKind::Sections;
             }
         }
         false

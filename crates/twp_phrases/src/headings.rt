@@ -3,7 +3,7 @@
 
 use crate::finder::Finder;
 use twp_asides::plus;
-use twp_draft::{LeftOut, Names, WrittenNumber};
+use twp_draft::{LeftOut, PhraseKind, WrittenNumber};
 use twp_grammar::Kind;
 use twp_rules::Rule;
 use twp_words::{is_range_name, is_township_name};
@@ -14,12 +14,12 @@ const TOWNSHIPS_USUAL: u16 = 36;
 impl<'a> Finder<'a> {
     /// The township and range at an index.
     pub(crate) fn heading(&mut self, index: usize) -> Option<usize> {
-        let from = self.draft.extent();
+        let from = self.draft.checkpoint();
         let next = self.after_words_for_heading(index);
         if let Some(end) = self.draft.pieces.after_same_township(next) {
             self.draft.shrink(from);
-            let names = Names::Nothing(LeftOut::MovedHeading);
-            return Some(self.draft.add(names, index, end, from));
+            let kind = PhraseKind::Nothing(LeftOut::MovedHeading);
+            return Some(self.draft.add(kind, index, end, from));
         }
         let has_word = self.has_township_word(next);
         // Without a word for it, its side is beside its number.
@@ -38,7 +38,7 @@ impl<'a> Finder<'a> {
             self.draft.doubt();
         }
         let end = self.after_same_tier(end);
-        Some(self.draft.add(Names::Heading, index, end, from))
+        Some(self.draft.add(PhraseKind::Heading, index, end, from))
     }
 
     /// Leaves out words before a heading, as in `all in T. 2 N.`, and returns where it begins.
@@ -264,8 +264,8 @@ impl<'a> Finder<'a> {
         Some(side)
     }
 
-    /// Whether a number of three digits before a side may be two that lost the mark between them, as in `082N,3W`: the
-    /// range has other digits.
+    /// Whether a number of three digits before a side may be two that lost the mark between them,
+    /// as in `082N,3W`: the range has other digits.
     fn is_of_two_numbers(&self, index: usize, side: usize) -> bool {
         let pieces = &self.draft.pieces;
         let next = plus(side, 1);
@@ -359,7 +359,7 @@ impl<'a> Finder<'a> {
 
     /// Where the township and range at an index end, if they are there.
     pub(crate) fn end_of_heading(&mut self, index: usize) -> Option<usize> {
-        let from = self.draft.extent();
+        let from = self.draft.checkpoint();
         let is_unsure = self.draft.is_unsure;
         let found = self.heading(index);
         self.draft.shrink(from);

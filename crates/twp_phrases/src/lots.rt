@@ -3,7 +3,7 @@
 use crate::finder::Finder;
 use crate::numbered::{Join, Joined};
 use twp_asides::plus;
-use twp_draft::{Names, WrittenNumber};
+use twp_draft::{PhraseKind, WrittenNumber};
 use twp_grammar::Kind;
 use twp_rules::Rule;
 
@@ -13,7 +13,7 @@ const LEAST: u16 = 2;
 impl<'a> Finder<'a> {
     /// The lots at an index.
     pub(crate) fn lots(&mut self, index: usize) -> Option<usize> {
-        let from = self.draft.extent();
+        let from = self.draft.checkpoint();
         let Some(next) = self.lot_word(index) else {
             return None;
         };
@@ -31,12 +31,12 @@ impl<'a> Finder<'a> {
             || self.draft.pieces.follows(next, b"lts")
             || self.draft.pieces.follows(next, b"iots")
             || self.is_before_row_of_lots(next);
-        let end = self.numbers_after(number, Names::Lots, is_plural);
-        Some(self.draft.add(Names::Lots, index, end, from))
+        let end = self.numbers_after(number, PhraseKind::Lots, is_plural);
+        Some(self.draft.add(PhraseKind::Lots, index, end, from))
     }
 
-    /// Whether three or more numbers, each one more than the last, are at an index, after a letter for lots and white
-    /// space: `L 1 2 3 4`, or `L 5 6 & 7`.
+    /// Whether three or more numbers, each one more than the last, are at an index, after a letter
+    /// for lots and white space: `L 1 2 3 4`, or `L 5 6 & 7`.
     fn is_before_row_of_lots(&self, index: usize) -> bool {
         let pieces = &self.draft.pieces;
         let second = plus(index, 1);
@@ -107,8 +107,8 @@ impl<'a> Finder<'a> {
         Some(next)
     }
 
-    /// Whether the rest of the name of a column for lots and tracts is at an index, as in `Lot/Trct 6`: a tract of a
-    /// resurvey has a larger number than a lot.
+    /// Whether the rest of the name of a column for lots and tracts is at an index, as in
+    /// `Lot/Trct 6`: a tract of a resurvey has a larger number than a lot.
     fn is_before_tract(&self, index: usize) -> bool {
         let pieces = &self.draft.pieces;
         let tract = plus(index, 1);
@@ -183,8 +183,8 @@ impl<'a> Finder<'a> {
     }
 
     /// The index after the acreage of a lot in parentheses, which is left out.
-    pub(crate) fn after_acreage(&mut self, index: usize, names: Names) -> usize {
-        if names != Names::Lots {
+    pub(crate) fn after_acreage(&mut self, index: usize, kind: PhraseKind) -> usize {
+        if kind != PhraseKind::Lots {
             return index;
         }
         let Some(end) = self.end_of_lot_acreage(index) else {

@@ -3,7 +3,7 @@
 use crate::finder::Finder;
 use crate::sections::SECTIONS;
 use twp_asides::{plus, tens_of};
-use twp_draft::{Names, WrittenNumber};
+use twp_draft::{PhraseKind, WrittenNumber};
 use twp_grammar::Kind;
 use twp_rules::Rule;
 
@@ -32,19 +32,19 @@ impl<'a> Finder<'a> {
     pub(crate) fn numbers_after(
         &mut self,
         number: WrittenNumber,
-        names: Names,
+        kind: PhraseKind,
         is_plural: bool,
     ) -> usize {
         if self.draft.pieces.is_figure_with_decimals(number.last) {
             self.draft.doubt();
         }
         let mut last = number;
-        let mut end = self.after_acreage(number.end, names);
+        let mut end = self.after_acreage(number.end, kind);
         for _ in 0..self.draft.pieces.len() {
-            if names == Names::Lots && self.draft.pieces.end_of_dashed_acreage(end).is_some() {
+            if kind == PhraseKind::Lots && self.draft.pieces.end_of_dashed_acreage(end).is_some() {
                 break;
             }
-            let is_list = names == Names::Lots && is_plural;
+            let is_list = kind == PhraseKind::Lots && is_plural;
             let joined = match self.join_at(end) {
                 None if is_list => self.join_of_lots(end, last),
                 found => found,
@@ -60,8 +60,8 @@ impl<'a> Finder<'a> {
             {
                 // A point may be a comma, as in `9, 10.11`.
                 let has_point = self.draft.pieces.is_figure_with_decimals(next);
-                let may_be_more = match names {
-                    Names::Sections => more.value <= SECTIONS,
+                let may_be_more = match kind {
+                    PhraseKind::Sections => more.value <= SECTIONS,
                     _ => is_list && (!has_point || more.value <= LOTS),
                 };
                 if may_be_more {
@@ -69,13 +69,13 @@ impl<'a> Finder<'a> {
                 }
                 break;
             }
-            if !self.continues(more, join, names, is_plural) {
+            if !self.continues(more, join, kind, is_plural) {
                 break;
             }
             if matches!(join, Join::To | Join::Dash) && more.value <= last.value {
                 self.draft.doubt();
             }
-            if names == Names::Sections && !is_plural && join == Join::Comma {
+            if kind == PhraseKind::Sections && !is_plural && join == Join::Comma {
                 self.draft.doubt();
             }
             if self.may_be_unit(last, more, join) || self.may_number_row(next) {
@@ -84,7 +84,7 @@ impl<'a> Finder<'a> {
             self.write_join(end, next, join);
             self.draft.write_numeral(more);
             last = more;
-            end = self.after_acreage(more.end, names);
+            end = self.after_acreage(more.end, kind);
             end = self.after_inclusive(end, join);
         }
         end
@@ -149,7 +149,7 @@ impl<'a> Finder<'a> {
         &self,
         more: WrittenNumber,
         join: Join,
-        names: Names,
+        kind: PhraseKind,
         is_plural: bool,
     ) -> bool {
         let pieces = &self.draft.pieces;
@@ -158,13 +158,16 @@ impl<'a> Finder<'a> {
             && (pieces.is_north_south(after)
                 || pieces.is_east_west(after)
                 || (pieces.is(after, b"nr") || pieces.is(after, b"sr")));
-        if is_location || (names == Names::Sections && more.value > SECTIONS) || more.value == 0 {
+        if is_location
+            || (kind == PhraseKind::Sections && more.value > SECTIONS)
+            || more.value == 0
+        {
             return false;
         }
         let before_colon = matches!(pieces.kind(after), Kind::Colon);
         let is_apart = before_colon && join == Join::Comma;
-        match names {
-            Names::Sections => !is_apart || is_plural,
+        match kind {
+            PhraseKind::Sections => !is_apart || is_plural,
             _ => !before_colon,
         }
     }

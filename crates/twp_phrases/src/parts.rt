@@ -22,7 +22,7 @@ pub(crate) struct ReadPart {
 impl<'a> Finder<'a> {
     /// The aliquot part at an index: steps joined without white space, or by `of`.
     pub(crate) fn part(&mut self, index: usize) -> Option<ReadPart> {
-        let from = self.draft.extent();
+        let from = self.draft.checkpoint();
         let mut first = self.draft.pieces.after_fractional(index);
         let is_fractional = first > index;
         if is_fractional {
@@ -38,7 +38,7 @@ impl<'a> Finder<'a> {
         let mut end = self.step(first)?;
         let mut form = Form::Plain;
         for _ in 0..self.draft.pieces.len() {
-            if self.draft.extent().steps_after(from) > STEPS_MOST {
+            if self.draft.checkpoint().steps_after(from) > STEPS_MOST {
                 self.draft.doubt();
                 break;
             }
@@ -50,11 +50,11 @@ impl<'a> Finder<'a> {
             if !self.draft.pieces.is(end, b"of") && !self.draft.pieces.is(end, b"(") {
                 break;
             }
-            let extent = self.draft.extent();
+            let checkpoint = self.draft.checkpoint();
             let same = self.after_same_step(end);
             let steps = self.draft.steps.len();
             let Some(after) = self.step_after_of(same) else {
-                self.draft.shrink(extent);
+                self.draft.shrink(checkpoint);
                 break;
             };
             if let Some(step) = self.draft.steps.get_mut(steps) {
@@ -77,10 +77,10 @@ impl<'a> Finder<'a> {
             return index;
         }
         let before = self.draft.steps.last().copied();
-        let extent = self.draft.extent();
+        let checkpoint = self.draft.checkpoint();
         let close = self.step(plus(index, 1));
         let same = self.draft.steps.last().copied();
-        let count = self.draft.extent().steps_after(extent);
+        let count = self.draft.checkpoint().steps_after(checkpoint);
         let close = close.unwrap_or(index);
         let end = plus(close, 1);
         let is_same = count == 1
@@ -88,9 +88,9 @@ impl<'a> Finder<'a> {
             && self.draft.pieces.is(close, b")")
             && self.draft.pieces.is(end, b"of");
         if is_same {
-            self.draft.add_said(plus(index, 1), close, extent);
+            self.draft.add_said(plus(index, 1), close, checkpoint);
         }
-        self.draft.shrink(extent);
+        self.draft.shrink(checkpoint);
         if !is_same {
             return index;
         }
@@ -109,11 +109,11 @@ impl<'a> Finder<'a> {
             let next = plus(index, 1);
             let from = pieces.start(index);
             let to = pieces.start(next);
-            let extent = self.draft.extent();
+            let checkpoint = self.draft.checkpoint();
             self.leave_out_bytes(from, to);
             let end = self.step(next);
             if end.is_none() {
-                self.draft.shrink(extent);
+                self.draft.shrink(checkpoint);
             }
             return end;
         }

@@ -4,7 +4,7 @@ use crate::finder::Finder;
 use crate::parts::ReadPart;
 use crate::sought::{OF_NUMBERS, OF_WORDS, SoughtPhrase};
 use twp_asides::plus;
-use twp_draft::{LastSection, Names, Placed};
+use twp_draft::{LastSection, PhraseKind, Placed};
 use twp_grammar::Kind;
 
 /// The most pieces that join two phrases.
@@ -52,11 +52,11 @@ impl<'a> Finder<'a> {
         let Some(Placed { phrase, .. }) = self.draft.phrases.last() else {
             return;
         };
-        if matches!(phrase.names, Names::Nothing(_)) {
+        if matches!(phrase.kind, PhraseKind::Nothing(_)) {
             return;
         }
-        self.names_land = self.names_land || !matches!(phrase.names, Names::Heading);
-        if matches!(phrase.names, Names::Sections) {
+        self.names_land = self.names_land || !matches!(phrase.kind, PhraseKind::Heading);
+        if matches!(phrase.kind, PhraseKind::Sections) {
             self.draft.last_section = Some(LastSection {
                 first: phrase.first,
                 numbers: phrase.numbers,
@@ -96,6 +96,7 @@ impl<'a> Finder<'a> {
                     || pieces.is(index, b"said")
                     || pieces.is(index, b"thereof")
                     || pieces.is(index, b"also")
+                    || pieces.is(index, b"plus")
                     || pieces.joins_together(index)
             }
             _ => false,
@@ -129,14 +130,14 @@ impl<'a> Finder<'a> {
         if !pieces.is(index, b"(") || self.has_open {
             return false;
         }
-        match self.draft.last_names() {
-            Some(Names::Sections) => {
+        match self.draft.last_kind() {
+            Some(PhraseKind::Sections) => {
                 pieces.begins_land(next)
                     || self.after_except(next).is_some()
                     || pieces.begins_tier(next)
             }
-            Some(Names::Lots) => self.after_except(next).is_some(),
-            Some(Names::Part | Names::All) => {
+            Some(PhraseKind::Lots) => self.after_except(next).is_some(),
+            Some(PhraseKind::Part | PhraseKind::All) => {
                 self.after_except(next).is_some()
                     || pieces.begins_tier(next)
                     || (pieces.is(next, b"all") && pieces.begins_tier(plus(next, 1)))
@@ -154,7 +155,7 @@ impl<'a> Finder<'a> {
         index: usize,
         likely: Option<SoughtPhrase>,
     ) -> Option<usize> {
-        let from = self.draft.extent();
+        let from = self.draft.checkpoint();
         if let Some(likely) = likely {
             if let Some(end) = self.phrase_of_kind(likely, index) {
                 return Some(end);
@@ -262,7 +263,7 @@ impl<'a> Finder<'a> {
     /// are part of a parcel's code.
     #[inline(never)]
     pub(crate) fn register_or_heading(&mut self, index: usize) -> Option<usize> {
-        let from = self.draft.extent();
+        let from = self.draft.checkpoint();
         if let Some(end) = self.of_register(index) {
             return Some(end);
         }
@@ -281,7 +282,7 @@ impl<'a> Finder<'a> {
     /// The section of a location, or the aliquot part, at an index.
     #[inline(never)]
     pub(crate) fn half_or_section(&mut self, index: usize) -> Option<usize> {
-        let from = self.draft.extent();
+        let from = self.draft.checkpoint();
         if let Some(end) = self.section_of_letter(index) {
             return Some(end);
         }
@@ -292,7 +293,7 @@ impl<'a> Finder<'a> {
     /// The aliquot part at an index, which is doubted if it may be something else.
     #[inline(never)]
     pub(crate) fn sure_part(&mut self, index: usize) -> Option<usize> {
-        let from = self.draft.extent();
+        let from = self.draft.checkpoint();
         let ReadPart {
             end,
             form,
@@ -303,13 +304,13 @@ impl<'a> Finder<'a> {
             self.draft.add_fractional(end);
         }
         if self.draft.pieces.is(end, b"thereof") {
-            match self.draft.last_names() {
-                Some(Names::Except) => self.add_steps_of_whole(index, end, from),
-                Some(Names::Part | Names::Lots) => self.draft.doubt(),
+            match self.draft.last_kind() {
+                Some(PhraseKind::Except) => self.add_steps_of_whole(index, end, from),
+                Some(PhraseKind::Part | PhraseKind::Lots) => self.draft.doubt(),
                 _ => {}
             }
         }
-        self.draft.add(Names::Part, index, end, from);
+        self.draft.add(PhraseKind::Part, index, end, from);
         self.draft.note_form(form);
         Some(end)
     }

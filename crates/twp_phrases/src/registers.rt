@@ -2,7 +2,7 @@
 
 use crate::finder::Finder;
 use twp_asides::plus;
-use twp_draft::{LeftOut, Names, WrittenNumber};
+use twp_draft::{LeftOut, PhraseKind, WrittenNumber};
 use twp_grammar::Kind;
 use twp_rules::Rule;
 
@@ -17,15 +17,16 @@ impl<'a> Finder<'a> {
         if let Some(end) = self.letter_of_register(index) {
             return Some(end);
         }
-        if self.draft.last_names() == Some(Names::Heading) && self.ends_code(index) {
-            let from = self.draft.extent();
-            let names = Names::Nothing(LeftOut::Label);
-            return Some(self.draft.add(names, index, plus(index, 1), from));
+        if self.draft.last_kind() == Some(PhraseKind::Heading) && self.ends_code(index) {
+            let from = self.draft.checkpoint();
+            let kind = PhraseKind::Nothing(LeftOut::Label);
+            return Some(self.draft.add(kind, index, plus(index, 1), from));
         }
         self.section_of_register(index)
     }
 
-    /// Whether the 0 that ends the code of a township is at an index, as in `ID080020N0030W0`: it is no duplicate.
+    /// Whether the 0 that ends the code of a township is at an index, as in `ID080020N0030W0`: it
+    /// is no duplicate.
     pub(crate) fn ends_code(&self, index: usize) -> bool {
         let pieces = &self.draft.pieces;
         pieces.is(index, b"0")
@@ -38,16 +39,16 @@ impl<'a> Finder<'a> {
 
     /// The code of the meridian, before a township and range.
     fn meridian_of_register(&mut self, index: usize) -> Option<usize> {
-        let from = self.draft.extent();
-        let last = self.draft.last_names();
+        let from = self.draft.checkpoint();
+        let last = self.draft.last_kind();
         let pieces = &self.draft.pieces;
         let next = plus(index, 1);
         if pieces.is_meridian_cell(index) {
-            let names = Names::Nothing(LeftOut::Meridian);
-            return Some(self.draft.add(names, index, next, from));
+            let kind = PhraseKind::Nothing(LeftOut::Meridian);
+            return Some(self.draft.add(kind, index, next, from));
         }
         let is_code = pieces.has_digits(index, 1) || pieces.has_digits(index, 2);
-        let is_after_label = last == Some(Names::Nothing(LeftOut::Label));
+        let is_after_label = last == Some(PhraseKind::Nothing(LeftOut::Label));
         let tier = if pieces.is(next, b"t") {
             plus(next, 1)
         } else {
@@ -56,12 +57,12 @@ impl<'a> Finder<'a> {
         let is_after_row = pieces.follows(index, b";");
         let is_row = (pieces.begins_line(index) || is_after_label || is_after_row)
             && pieces.has_digits(tier, 4);
-        let is_after_state = last == Some(Names::Nothing(LeftOut::Meridian));
+        let is_after_state = last == Some(PhraseKind::Nothing(LeftOut::Meridian));
         if !is_code || !(is_row || is_after_state) || !self.end_of_heading(next).is_some() {
             return None;
         }
-        let names = Names::Nothing(LeftOut::Meridian);
-        Some(self.draft.add(names, index, next, from))
+        let kind = PhraseKind::Nothing(LeftOut::Meridian);
+        Some(self.draft.add(kind, index, next, from))
     }
 
     /// The A before aliquot parts, after a section.
@@ -76,27 +77,27 @@ impl<'a> Finder<'a> {
         if !pieces.is(index, b"a")
             || !is_before_part
             || next >= pieces.len()
-            || self.draft.last_names() != Some(Names::Sections)
+            || self.draft.last_kind() != Some(PhraseKind::Sections)
         {
             return None;
         }
-        let from = self.draft.extent();
+        let from = self.draft.checkpoint();
         Some(
             self.draft
-                .add(Names::Nothing(LeftOut::Heading), index, next, from),
+                .add(PhraseKind::Nothing(LeftOut::Heading), index, next, from),
         )
     }
 
     /// The section after SN, whose number has a digit more.
     fn section_of_register(&mut self, index: usize) -> Option<usize> {
-        let from = self.draft.extent();
-        let last = self.draft.last_names();
+        let from = self.draft.checkpoint();
+        let last = self.draft.last_kind();
         let pieces = &self.draft.pieces;
         let digits = plus(index, 2);
         let is_section = pieces.is(index, b"0")
             && pieces.is(plus(index, 1), b"sn")
             && pieces.has_digits(digits, 3)
-            && last == Some(Names::Heading);
+            && last == Some(PhraseKind::Heading);
         let value = pieces.number(digits).unwrap_or(0);
         if !is_section || value % 10 != 0 || value == 0 || value > 360 {
             return None;
@@ -115,6 +116,6 @@ impl<'a> Finder<'a> {
             last: digits,
             end: next,
         });
-        Some(self.draft.add(Names::Sections, index, next, from))
+        Some(self.draft.add(PhraseKind::Sections, index, next, from))
     }
 }

@@ -3,7 +3,7 @@
 use crate::finder::Finder;
 use crate::numbered::Joined;
 use twp_asides::{is_worn_section, plus};
-use twp_draft::{Form, Names, Phrase, WrittenNumber};
+use twp_draft::{Form, Phrase, PhraseKind, WrittenNumber};
 use twp_grammar::Kind;
 use twp_rules::Rule;
 
@@ -13,7 +13,7 @@ pub(crate) const SECTIONS: u16 = 36;
 impl<'a> Finder<'a> {
     /// The section or sections at an index, after the word for them.
     pub(crate) fn sections(&mut self, index: usize) -> Option<usize> {
-        let from = self.draft.extent();
+        let from = self.draft.checkpoint();
         let word = self.place_of_section_word(index);
         if self.draft.pieces.is_damaged_section_word(word) {
             return self.damaged_section(word);
@@ -45,7 +45,7 @@ impl<'a> Finder<'a> {
         };
         let is_plural = self.is_plural_word(word);
         let end = self.section_list(word, number, is_plural);
-        self.draft.add(Names::Sections, index, end, from);
+        self.draft.add(PhraseKind::Sections, index, end, from);
         if is_plural {
             self.draft.note_form(Form::Plural);
         }
@@ -61,8 +61,8 @@ impl<'a> Finder<'a> {
         if pieces.is(index, b"fractional") || self.is_said(index) {
             return plus(index, 1);
         }
-        match self.draft.last_names() {
-            Some(Names::Part | Names::Lots) => pieces.after_all_in(index),
+        match self.draft.last_kind() {
+            Some(PhraseKind::Part | PhraseKind::Lots) => pieces.after_all_in(index),
             _ => index,
         }
     }
@@ -119,9 +119,9 @@ impl<'a> Finder<'a> {
         let mut count: usize = 0;
         for placed in &self.draft.phrases {
             let phrase = &placed.phrase;
-            count = match phrase.names {
-                Names::Part | Names::Lots => plus(count, 1),
-                Names::Sections | Names::All => 0,
+            count = match phrase.kind {
+                PhraseKind::Part | PhraseKind::Lots => plus(count, 1),
+                PhraseKind::Sections | PhraseKind::All => 0,
                 _ => count,
             };
         }
@@ -141,34 +141,40 @@ impl<'a> Finder<'a> {
             return None;
         }
         let numbers = self.draft.last_section?.numbers;
-        let from = self.draft.extent();
-        let again = self.draft.phrase(Names::Sections, index, end, from);
+        let from = self.draft.checkpoint();
+        let again = self.draft.phrase(PhraseKind::Sections, index, end, from);
         self.draft.add_phrase(Phrase { numbers, ..again });
         Some(end)
     }
 
     /// The section at an index whose word a line end divides: its number is at a later index.
     fn divided_section(&mut self, index: usize, word: usize, next: usize) -> Option<usize> {
-        let from = self.draft.extent();
+        let from = self.draft.checkpoint();
         let number = self.section_number(next)?;
         self.draft.leave_out_each(index, word, Rule::Word);
         let start = self.draft.pieces.start(word);
         let end = self.draft.pieces.end_before(next);
         self.draft.write(start, end, b"sec", Rule::SectionWord);
         self.draft.write_numeral(number);
-        Some(self.draft.add(Names::Sections, index, number.end, from))
+        Some(
+            self.draft
+                .add(PhraseKind::Sections, index, number.end, from),
+        )
     }
 
     /// The section at an index whose word begins with such a digit.
     fn damaged_section(&mut self, index: usize) -> Option<usize> {
-        let from = self.draft.extent();
+        let from = self.draft.checkpoint();
         self.draft.replace(index, b"S", Rule::Damage);
         let next = self.after_section_word(plus(index, 1));
         let Some(number) = self.section_number(next) else {
             return None;
         };
         self.draft.write_numeral(number);
-        Some(self.draft.add(Names::Sections, index, number.end, from))
+        Some(
+            self.draft
+                .add(PhraseKind::Sections, index, number.end, from),
+        )
     }
 
     /// The index after what follows the word for sections at an index: `numbered`, a period, a second one, or
@@ -229,8 +235,8 @@ impl<'a> Finder<'a> {
         next
     }
 
-    /// Leaves out a name and an equals sign at an index, between a word and its number, and writes a space for the bar
-    /// before them.
+    /// Leaves out a name and an equals sign at an index, between a word and its number, and writes
+    /// a space for the bar before them.
     pub(crate) fn leave_out_name(&mut self, index: usize) {
         let (name, mark) = (plus(index, 1), plus(index, 2));
         self.draft.replace(index, b" ", Rule::Heading);
@@ -252,7 +258,7 @@ impl<'a> Finder<'a> {
             self.draft.replace(word, written, Rule::SectionWord);
         }
         self.draft.write_numeral(number);
-        self.numbers_after(number, Names::Sections, is_plural)
+        self.numbers_after(number, PhraseKind::Sections, is_plural)
     }
 
     /// What is written for the word for sections at an index, before a number, if it isn't written so: there
@@ -284,7 +290,7 @@ impl<'a> Finder<'a> {
             return false;
         };
         match self.draft.numeral(end) {
-            Some(more) => self.continues(more, join, Names::Sections, is_plural),
+            Some(more) => self.continues(more, join, PhraseKind::Sections, is_plural),
             None => false,
         }
     }

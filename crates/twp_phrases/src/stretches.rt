@@ -1,14 +1,13 @@
 //! What is unread of a text: its words that no phrase covers.
 ghost use Rattle.std.specs.Prelude.{◌≡◌, ◌<◌, ◌≤◌, ℕ, false, true, IfOk, MatchOption, length, slice_index};
 ghost use Rattle.std.specs.Prelude.{◌==◌, if◌then◌else◌, slice_range};
-ghost use Rattle.std.specs.Str.{str_to_ascii_lowercase};
 ghost use Rattle.twp_phrases.specs.Unread.{AreRunsUpTo, AreUnread, HasNoWord, IsLeft, IsNextWord};
 ghost use Rattle.twp_phrases.specs.Unread.{covers, left_at};
-ghost use Rattle.twp_grammar.specs.Tokens.{same_bytes};
 ghost use Rattle.twp_rules.specs.Edges.{is_one_of};
 ghost use Rattle.twp_phrases.specs.Unread.{connectives, is_break, is_of_word};
 
 use std::alloc::{AllocError, Global};
+use twp_rules::is_text;
 
 /// The bytes of a text from one place up to another.
 #[derive(Clone, Copy, PartialEq, Eq)]
@@ -190,20 +189,4 @@ fn is_connective(word: &[u8]) -> bool
         || is_text(word, b"\xE2\x80\x9C")
         || is_text(word, b"\xE2\x80\x9D")
         || is_text(word, b"\xE2\x80\xA2")
-}
-
-/// Whether a text, with its letters in lowercase, is another one.
-#[tactic(auto, using(twp_rules::proofs::SameTexts::other_length))]
-fn is_text(seen: &[u8], text: &[u8]) -> bool
-    ensures { result ≡ same_bytes (str_to_ascii_lowercase seen.now) text.now }
-{
-    if seen.len() != text.len() {
-        return false;
-    }
-    for index in 0..seen.len() {
-        if seen[index].to_ascii_lowercase() != text[index] {
-            return false;
-        }
-    }
-    true
 }

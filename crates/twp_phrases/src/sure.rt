@@ -2,7 +2,7 @@
 
 use crate::finder::Finder;
 use twp_asides::{Position, begins_depths, end_of_remark, plus};
-use twp_draft::{LeftOut, Names, Placed};
+use twp_draft::{LeftOut, PhraseKind, Placed};
 use twp_grammar::Kind;
 
 impl<'a> Finder<'a> {
@@ -18,7 +18,7 @@ impl<'a> Finder<'a> {
         };
         match pieces.kind(before) {
             Kind::Comma if pieces.is_joined(index) => {
-                self.draft.last_names() != Some(Names::Sections)
+                self.draft.last_kind() != Some(PhraseKind::Sections)
             }
             Kind::Comma | Kind::Semicolon | Kind::Colon | Kind::And | Kind::The => true,
             Kind::BadByte => pieces.is(before, b"&") || pieces.is_dash(before),
@@ -29,7 +29,8 @@ impl<'a> Finder<'a> {
         }
     }
 
-    /// Whether a comma between two cells is at an index, the second of which has land, as in `Aliquot,"NENE"`.
+    /// Whether a comma between two cells is at an index, the second of which has land, as in
+    /// `Aliquot,"NENE"`.
     fn is_before_cell_of_land(&self, index: usize) -> bool {
         let pieces = &self.draft.pieces;
         let next = plus(index, 1);
@@ -42,8 +43,8 @@ impl<'a> Finder<'a> {
     /// Whether the name of the column for aliquot parts is before an index.
     pub(crate) fn is_after_label(&self, index: usize) -> bool {
         match self.draft.phrases.last() {
-            Some(Placed { phrase, .. }) => match phrase.names {
-                Names::Nothing(LeftOut::Heading | LeftOut::Label) => {
+            Some(Placed { phrase, .. }) => match phrase.kind {
+                PhraseKind::Nothing(LeftOut::Heading | LeftOut::Label) => {
                     phrase.end == index
                         && self.draft.pieces.end_of_column_label(phrase.first) == Some(index)
                 }
@@ -66,14 +67,15 @@ impl<'a> Finder<'a> {
         if !self.may_be_known_run(index) && !self.is_last_run(index, end) {
             return None;
         }
-        let from = self.draft.extent();
+        let from = self.draft.checkpoint();
         Some(
             self.draft
-                .add(Names::Nothing(LeftOut::Label), index, end, from),
+                .add(PhraseKind::Nothing(LeftOut::Label), index, end, from),
         )
     }
 
-    /// Whether a run of known words after land, without a mark between them, ends its line, as in `NENE Sec 14 AUTHORIZED`.
+    /// Whether a run of known words after land, without a mark between them, ends its line, as in
+    /// `NENE Sec 14 AUTHORIZED`.
     fn is_last_run(&self, index: usize, end: usize) -> bool {
         let is_beside = match self.draft.phrases.last() {
             Some(placed) => placed.phrase.end == index,
@@ -82,12 +84,13 @@ impl<'a> Finder<'a> {
         is_beside && (end >= self.draft.pieces.len() || self.draft.pieces.begins_line(end))
     }
 
-    /// Whether a run of known words may begin at an index: after a mark, or what is left out, or in parentheses.
+    /// Whether a run of known words may begin at an index: after a mark, or what is left out, or in
+    /// parentheses.
     fn may_be_known_run(&self, index: usize) -> bool {
         let pieces = &self.draft.pieces;
         let is_after_aside = match self.draft.phrases.last() {
             Some(placed) => {
-                placed.phrase.end == index && matches!(placed.phrase.names, Names::Nothing(_))
+                placed.phrase.end == index && matches!(placed.phrase.kind, PhraseKind::Nothing(_))
             }
             None => false,
         };
@@ -103,7 +106,7 @@ impl<'a> Finder<'a> {
         };
         let end = end_of_remark(&self.draft.pieces, index, position)?;
         // Numbers may be those of lots, beside a section also as a spreadsheet changes them.
-        let is_beside = self.draft.last_names() == Some(Names::Sections);
+        let is_beside = self.draft.last_kind() == Some(PhraseKind::Sections);
         let has_lots = is_beside && !self.draft.pieces.has_word(index, end)
             || (position == Position::BeforeLand && self.may_be_plat(index, end));
         let has_small = self.draft.pieces.are_small_numbers(index, end)
@@ -117,10 +120,10 @@ impl<'a> Finder<'a> {
         self.has_depths = self.has_depths
             || (self.draft.pieces.is(index, b"(")
                 && begins_depths(&self.draft.pieces, plus(index, 1)));
-        let from = self.draft.extent();
+        let from = self.draft.checkpoint();
         Some(
             self.draft
-                .add(Names::Nothing(LeftOut::Label), index, end, from),
+                .add(PhraseKind::Nothing(LeftOut::Label), index, end, from),
         )
     }
 
@@ -169,7 +172,7 @@ impl<'a> Finder<'a> {
             Some(section) => pieces.is(section.first, b"s"),
             None => false,
         };
-        let is_more = self.draft.last_names() != Some(Names::Sections)
+        let is_more = self.draft.last_kind() != Some(PhraseKind::Sections)
             || pieces.follows(first, b",");
         (!self.names_land && !self.is_before_section(end)) || (is_after_letter && is_more)
     }
@@ -203,7 +206,7 @@ impl<'a> Finder<'a> {
         let letters = pieces.bytes(first);
         let is_after_capital = match self.draft.phrases.last() {
             Some(Placed { phrase: before, .. }) => {
-                before.names == Names::Part
+                before.kind == PhraseKind::Part
                     && matches!(pieces.bytes(before.first), [b'A'..=b'Z', ..])
             }
             None => false,
@@ -218,7 +221,7 @@ impl<'a> Finder<'a> {
         let pieces = &self.draft.pieces;
         match self.draft.phrases.last() {
             Some(Placed { phrase, .. }) => {
-                phrase.names == Names::Lots
+                phrase.kind == PhraseKind::Lots
                     && phrase.numbers.end == plus(phrase.numbers.first, 1)
                     && !(pieces.is(phrase.first, b"l") || pieces.is(phrase.first, b"lot"))
             }

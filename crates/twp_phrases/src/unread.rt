@@ -21,7 +21,7 @@ use crate::phrases::Beginning;
 use crate::stretches::{Stretch, unread_of};
 use std::alloc::{AllocError, Global};
 use twp_asides::{Pieces, plus};
-use twp_draft::{Draft, Names, Phrase};
+use twp_draft::{Draft, Phrase, PhraseKind};
 
 /// After so many pieces that are unread, the rest of the text is unread, too: the search looks far ahead from
 /// each.
@@ -174,17 +174,17 @@ impl<'a> Finder<'a> {
         let pieces = &self.draft.pieces;
         let is_short = phrase.end == plus(phrase.first, 2)
             && pieces.has_digits(plus(phrase.first, 1), 1);
-        match phrase.names {
-            Names::Part if is_short && pieces.is(phrase.first, b"s") => Some(
+        match phrase.kind {
+            PhraseKind::Part if is_short && pieces.is(phrase.first, b"s") => Some(
                 Ambiguity::SectionOrHalf,
             ),
-            Names::Part if is_short => Some(Ambiguity::LotOrHalf),
-            Names::Part if phrase.end == pieces.len() && pieces.is(phrase.first, b"se") => {
+            PhraseKind::Part if is_short => Some(Ambiguity::LotOrHalf),
+            PhraseKind::Part if phrase.end == pieces.len() && pieces.is(phrase.first, b"se") => {
                 Some(Ambiguity::QuarterOrSection)
             }
-            Names::Part if pieces.is(phrase.end, b"thereof") => Some(Ambiguity::PartOrSection),
-            Names::Sections | Names::Lots => Some(Ambiguity::NumberOrFigure),
-            Names::Heading => Some(Ambiguity::RangeOrHalf),
+            PhraseKind::Part if pieces.is(phrase.end, b"thereof") => Some(Ambiguity::PartOrSection),
+            PhraseKind::Sections | PhraseKind::Lots => Some(Ambiguity::NumberOrFigure),
+            PhraseKind::Heading => Some(Ambiguity::RangeOrHalf),
             _ => None,
         }
     }

@@ -28,7 +28,7 @@ impl<'a> Finder<'a> {
         };
         let start = self.draft.pieces.start(index);
         let written = written_step(direction.letters);
-        let extent = self.draft.extent();
+        let checkpoint = self.draft.checkpoint();
         self.write_letters(index, &direction);
         if let Some(stop) = self.fraction(direction.end, size) {
             self.push_step(start, stop, written);
@@ -36,7 +36,7 @@ impl<'a> Finder<'a> {
         }
         let word = self.after_one(direction.end);
         if !size.is_word(self.draft.pieces.lower(word)) {
-            self.draft.shrink(extent);
+            self.draft.shrink(checkpoint);
             return None;
         }
         let end = self.draft.pieces.end_before(direction.end);

@@ -9,3 +9,4 @@ pub mod RoleFacts
 pub mod MoveFacts
 pub mod SeamFacts
 pub mod AloneFacts
+pub mod SectionFacts

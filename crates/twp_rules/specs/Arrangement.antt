@@ -3,10 +3,12 @@
 -- follows land after its own section, or follows other sections, a semicolon or a line end separates them.
 use Rattle.std.specs.Prelude.{◌==◌, ◌||◌, ◌&&◌, ℕ, suc, Bool, true, false, List, [], ◌∷◌, Option, Some, None}
 use Rattle.std.specs.Prelude.{drop, if◌then◌else◌, length, nat_le, nat_lt, not, slice_index, slice_range}
+use Rattle.std.specs.Prelude.{take}
 use Rattle.twp_grammar.specs.declared.item.Item.{Item}
 use Rattle.twp_rules.specs.Changes.{Change}
 use Rattle.twp_rules.specs.Apart.{is_blank}
-use Rattle.twp_rules.specs.Edges.{is_one_of, without_white}
+use Rattle.twp_rules.specs.Edges.{ends_with_one, is_one_of, without_white}
+use Rattle.twp_rules.specs.Endings.{land_joints, section_joints}
 use Rattle.twp_rules.specs.Naming.{begins_word, digits_of, word_of}
 use Rattle.twp_rules.specs.Origins.{marks_of}
 use Rattle.twp_rules.specs.Roles.{goes_on_with_list}
@@ -79,11 +81,17 @@ lies_after text marks (Some last) it =
     then has_break (slice_range text it.section it.land) || has_no_other text it 0 (length text) marks
     else has_break (slice_range text last.section it.section))
 
+-- `and` joins land to sections before it, and `of` is between the land and its own section
+abbrev pub is_joined : List ℕ → Lying → Bool
+is_joined text it =
+    ends_with_one (take it.land text) land_joints && ends_with_one (take it.section text) section_joints
+
 -- land that is before its section: the land before it is, too; or the only break between the two sections is
--- between the two pieces of land. If there is no land before it, no other section is before it, or a break is
+-- between the two pieces of land. If there is no land before it, no other section is before it, or a break
+-- is, or it is joined to the sections before it
 abbrev pub lies_before : List ℕ → List Mark → Option Lying → Lying → Bool
 lies_before text marks None it =
-    has_no_other text it 0 it.land marks || has_break (slice_range text 0 it.land)
+    has_no_other text it 0 it.land marks || has_break (slice_range text 0 it.land) || is_joined text it
 lies_before text marks (Some last) it =
     not (is_after last)
     || has_break (slice_range text last.land it.land)

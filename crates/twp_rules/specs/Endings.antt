@@ -158,7 +158,9 @@ tens_ends = texts (codes "-| ")
 
 -- meridians of which only letters are written, and states whose names begin with a side
 abbrev pub meridian_letters : List (List ℕ)
-meridian_letters = texts (codes "w. m.|w.m.|w m|north dakota|south dakota")
+meridian_letters =
+    texts (codes "w. m.|w.m.|w m|n.m.p.m.|n.m.p.m|n. m. p. m.|s.l.m.|s.l.b.m.|s.l.b.&m.|s.b.m.")
+    ++ texts (codes "north dakota|south dakota")
     ++ texts (codes "state of north dakota|state of south dakota")
 
 -- what is after `but` where it begins an exception,
@@ -184,3 +186,11 @@ words_apart = texts (codes "and |of ")
 -- what is before `the` that is not between two steps
 abbrev pub before_articles : List (List ℕ)
 before_articles = texts (codes "and |of ") ++ (97 ∷ 110 ∷ 100 ∷ 10 ∷ []) ∷ (111 ∷ 102 ∷ 10 ∷ []) ∷ []
+
+-- what is before land that is joined to sections,
+abbrev pub land_joints : List (List ℕ)
+land_joints = texts (codes "and |and the |& |& the ")
+
+-- and before the number of its own section
+abbrev pub section_joints : List (List ℕ)
+section_joints = texts (codes "of section |of sec. |of sec |of sections |of secs. |of secs ")

@@ -8,15 +8,26 @@ use Rattle.twp_rules.specs.Edges.{begins_with_one, byte_before, ends_with_one, i
 use Rattle.twp_rules.specs.Endings.{dash_marks, words_apart}
 use Rattle.twp_rules.specs.Naming.{begins_word, digits_of, makes_half, word_of}
 use Rattle.twp_rules.specs.Rules.{are_leading, is_fraction_digit, solid_before, without_spaces}
-use Rattle.twp_rules.specs.Words.{apart_marks, before_land_marks, east_west, list_words, location_marks}
+use Rattle.twp_rules.specs.Words.{apart_marks, before_land_marks, east_west, letter_marks, list_words}
+use Rattle.twp_rules.specs.Words.{location_marks}
 use Rattle.twp_rules.specs.Words.{north_words, number_words, section_names, south_words, township_words}
+
+-- what is after the letter of a section: a period or a colon, and white space, may be before its number
+abbrev pub after_letter : List ℕ → List ℕ
+after_letter after =
+    if is_one_of (slice_index after 0 ∷ []) letter_marks then without_white (drop 1 after)
+    else without_white after
+
+-- the number of a section is after its letter, and not what makes a half of it
+abbrev pub is_before_number : List ℕ → Bool
+is_before_number rest = is_ascii_digit (slice_index rest 0) && not (makes_half rest)
 
 -- a word begins a list of sections: it is the word for one, its letter with a number, `of` before a number,
 -- or the side of a range after its number
 abbrev pub begins_list : ℕ → List ℕ → List ℕ → Bool
 begins_list before word after =
     is_one_of word section_names
-    || is_one_of word (codes "s" ∷ []) && is_ascii_digit (slice_index after 0) && not (makes_half after)
+    || is_one_of word (codes "s" ∷ []) && is_before_number (after_letter after)
     || is_one_of word (codes "of" ∷ []) && is_ascii_digit (slice_index (without_white after) 0)
     || is_one_of word east_west && is_ascii_digit before
 

@@ -221,7 +221,7 @@ ampersands = pairs (texts (codes "&= and |&=and"))
 -- COMMA: between the parts of a section, before them, and after a heading
 abbrev pub commas : List Entry
 commas = pairs (codes "=, " ∷ [])
-    ++ all_as (texts (codes "|;|:|.|&|-") ++ en_dash ∷ em_dash ∷ words (codes "| +")) (codes ",")
+    ++ all_as (texts (codes "|;|:|.|&|-") ++ en_dash ∷ em_dash ∷ words (codes "| + plus")) (codes ",")
 
 -- SEMICOLON: between one section, with its parts, and another
 abbrev pub semicolons : List Entry

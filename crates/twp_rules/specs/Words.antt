@@ -188,6 +188,10 @@ abbrev pub list_words : List (List ℕ)
 list_words = words (codes "and or thru through to numbered no nos inclusive incl all entire being both each")
     ++ codes "the" ∷ []
 
+-- marks between the letter of a section and its number
+abbrev pub letter_marks : List (List ℕ)
+letter_marks = words (codes ". :")
+
 -- marks between a section and its township
 abbrev pub location_marks : List (List ℕ)
 location_marks = words (codes ", . - | /")

@@ -1,14 +1,17 @@
 //! Whether land lies with the section that the text gives it to.
-ghost use Rattle.std.specs.Prelude.{◌≡◌, true, IfOk, None, drop, map, slice_range};
+ghost use Rattle.std.specs.Prelude.{◌≡◌, ◌++◌, true, IfOk, None, drop, map, slice_range};
 ghost use Rattle.twp_rules.specs.Arrangement.{has_break, has_no_other, is_after, is_list_from, is_listed_at};
-ghost use Rattle.twp_rules.specs.Arrangement.{is_colon, is_no_other};
+ghost use Rattle.twp_rules.specs.Arrangement.{is_colon, is_joined, is_no_other};
 ghost use Rattle.twp_rules.specs.Arrangement.{is_number_with_colon, is_one_list, leads_to};
 ghost use Rattle.twp_rules.specs.Arrangement.{lie_from, lie_with_sections, lies, lies_after, lies_before};
 ghost use Rattle.twp_rules.specs.Changes.{seen};
+ghost use Rattle.twp_rules.specs.steps.Sections.{begins_with_section, section_before, sections_of};
 
 use crate::alone::is_alone;
 use crate::apart::is_blank;
 use crate::change::Change;
+use crate::context::before;
+use crate::endings::beside::*;
 use crate::figures::without_white;
 use crate::keeping::rest_of;
 use crate::lying::Lying;
@@ -20,9 +23,12 @@ use crate::words::sections::is_in_section_names;
 use std::alloc::{AllocError, Global};
 use twp_grammar::Item;
 
-/// Whether all land of a changed text lies with the section that the text gives it to. The items are those of the changed
-/// text from an offset on.
-#[tactic(auto, using(crate::proofs::AloneFacts::alone_lies))]
+/// Of fewer marks, a list of the sections among them takes longer than it saves.
+const MARKS_FEW: usize = 16;
+
+/// Whether all land of a changed text lies with the section that the text gives it to. The items
+/// are those of the changed text from an offset on.
+#[tactic(auto, using(crate::proofs::AloneFacts::alone_lies, crate::proofs::SectionFacts::lie_by_sections))]
 pub fn lie_with_sections(
     alloc: Global,
     text: &[u8],
@@ -36,15 +42,62 @@ pub fn lie_with_sections(
     if is_alone(changes, base, items) {
         return Ok(true);
     }
-    match marks_of(alloc, changes, base, items)? {
-        Some(marks) => Ok(lie(text, marks.as_slice())),
-        None => Ok(false),
+    let Some(marks) = marks_of(alloc, changes, base, items)? else {
+        return Ok(false);
+    };
+    if marks.len() < MARKS_FEW {
+        return Ok(lie(text, marks.as_slice(), marks.as_slice()));
+    }
+    let sections = sections_of(alloc, marks.as_slice())?;
+    Ok(lie(text, sections.as_slice(), marks.as_slice()))
+}
+
+/// The sections among marks. They are compared with each piece of land, and land with none, so a
+/// list of them alone saves most of the comparisons. A single section is named twice, as the first
+/// and the last of a list.
+fn sections_of(alloc: Global, marks: &[Mark]) -> Result<Vec<Mark>, AllocError>
+    ensures { IfOk result (λ it. it.items ≡ sections_of marks.now) }
+{
+    let mut sections = Vec::with_capacity(alloc, marks.len())?;
+    let mut left = marks;
+    while let [mark, more @ ..] = left {
+        add_section(*mark, more, &mut sections)?;
+        left = more;
+    }
+    Ok(sections)
+}
+
+/// Adds a mark before others to sections, if it is one, and the next one isn't the same.
+fn add_section(mark: Mark, more: &[Mark], sections: &mut Vec<Mark>) -> Result<(), AllocError>
+    ensures { IfOk result (λ _. sections.new.items ≡ sections.old.items ++ section_before mark more.now) }
+{
+    match mark {
+        Mark::Section(number, place) => {
+            if !begins_with_section(number, place, more) {
+                sections.push(Mark::Section(number, place))?;
+            }
+        }
+        Mark::Land(_) => {}
+    }
+    Ok(())
+}
+
+/// Whether the first of some marks is this section.
+fn begins_with_section(number: u16, place: usize, marks: &[Mark]) -> bool
+    ensures { result ≡ begins_with_section number place marks.now }
+{
+    match marks {
+        [mark, ..] => match *mark {
+            Mark::Section(next, spot) => next == number && spot == place,
+            Mark::Land(_) => false,
+        },
+        [] => false,
     }
 }
 
-/// Whether all land lies with its section.
-fn lie(text: &[u8], marks: &[Mark]) -> bool
-    ensures { result ≡ lie_from text.now marks.now 0 0 None marks.now }
+/// Whether all land lies with its section, of these sections.
+fn lie(text: &[u8], sections: &[Mark], marks: &[Mark]) -> bool
+    ensures { result ≡ lie_from text.now sections.now 0 0 None marks.now }
 {
     let mut number = 0;
     let mut section = 0;
@@ -61,7 +114,7 @@ fn lie(text: &[u8], marks: &[Mark]) -> bool
                     section,
                     land: place,
                 };
-                if !lies(text, marks, last, it) {
+                if !lies(text, sections, last, it) {
                     return false;
                 }
                 last = Some(it);
@@ -111,12 +164,21 @@ fn lies_before(text: &[u8], marks: &[Mark], last: Option<Lying>, it: Lying) -> b
     ensures { result ≡ lies_before text.now marks.now last it }
 {
     let Some(last) = last else {
-        return has_no_other(text, it, 0, it.land, marks) || has_break(part(text, 0, it.land));
+        return has_no_other(text, it, 0, it.land, marks)
+            || has_break(part(text, 0, it.land))
+            || is_joined(text, it);
     };
     !is_after(last)
         || (has_break(part(text, last.land, it.land))
             && !has_break(part(text, last.section, last.land))
             && !has_break(part(text, it.land, it.section)))
+}
+
+/// Whether `and` joins land to sections before it, and `of` is between the land and its own section.
+fn is_joined(text: &[u8], it: Lying) -> bool
+    ensures { result ≡ is_joined text.now it }
+{
+    has_land_joints(before(text, it.land)) && has_section_joints(before(text, it.section))
 }
 
 /// Whether no other section is from one place up to another, but those of the same list.

@@ -1,5 +1,5 @@
-//! The rules by which a text that people write is changed into a description of land: changes of a text, whether the
-//! rule of each allows it, and the text that they make.
+//! The rules by which a text that people write is changed into a description of land: changes of a
+//! text, whether the rule of each allows it, and the text that they make.
 #![tactic(auto)]
 
 mod allowed;
@@ -41,5 +41,5 @@ pub use change::{Change, are_changes, changed};
 pub use copying::copy_whole;
 pub use naming::{byte_at, byte_before, digits_of, is_side, word_of};
 pub use rule::Rule;
-pub use same::{are_same, begins_with, ends_with};
+pub use same::{are_same, begins_with, ends_with, is_text};
 pub use sayings::is_remark;

@@ -2,7 +2,8 @@
 ghost use Rattle.std.specs.Prelude.{◌≡◌, ◌≤◌, drop, length};
 ghost use Rattle.twp_rules.specs.Edges.{byte_before};
 ghost use Rattle.twp_rules.specs.Naming.{word_of};
-ghost use Rattle.twp_rules.specs.Roles.{begins_list, begins_whole, begins_with_tier, byte_before_spaces, ends_whole};
+ghost use Rattle.twp_rules.specs.Roles.{after_letter, begins_list, begins_whole, begins_with_tier, byte_before_spaces};
+ghost use Rattle.twp_rules.specs.Roles.{ends_whole, is_before_number};
 ghost use Rattle.twp_rules.specs.Roles.{goes_on_with_list, is_apart, is_before_land_mark, is_before_township, is_in_list};
 ghost use Rattle.twp_rules.specs.Roles.{is_north_south_word, is_of_register, is_said_section, is_section_sign_at};
 ghost use Rattle.twp_rules.specs.Roles.{without_location_marks, without_township_word};
@@ -108,12 +109,29 @@ fn is_section_sign(text: &[u8], at: usize) -> bool
     byte_at(text, at) == 167 && byte_before(text, at) == 194
 }
 
+/// What is after the letter of a section, without a period or a colon, and white space.
+fn after_letter(after: &[u8]) -> &[u8]
+    ensures { result.now ≡ after_letter after.now }
+{
+    if is_in_letter_marks(byte_at(after, 0)) {
+        return without_white(from(after, 1));
+    }
+    without_white(after)
+}
+
+/// Whether the number of a section is after its letter, and not what makes a half of it.
+fn is_before_number(rest: &[u8]) -> bool
+    ensures { result ≡ is_before_number rest.now }
+{
+    byte_at(rest, 0).is_ascii_digit() && !makes_half(rest)
+}
+
 /// Whether a word begins a list of sections.
 fn begins_list(before: u8, word: &[u8], after: &[u8]) -> bool
     ensures { result ≡ begins_list before word.now after.now }
 {
     is_in_section_names(word)
-        || (is_text(word, b"s") && byte_at(after, 0).is_ascii_digit() && !makes_half(after))
+        || (is_text(word, b"s") && is_before_number(after_letter(after)))
         || (is_text(word, b"of") && byte_at(without_white(after), 0).is_ascii_digit())
         || (is_in_east_west(word) && before.is_ascii_digit())
 }

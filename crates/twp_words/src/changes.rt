@@ -11,8 +11,8 @@ pub fn alters_land(word: &[u8]) -> bool {
         2 => is_among(word, 0x80000_00400000, "vs"),
         3 => is_among(
             word,
-            0x151612_000410b6,
-            "alt api bad bal del err gap lla rej",
+            0x151612_000410be,
+            "alt api bad bal cxl del err gap lla rej",
         ),
         4 => is_among(
             word,

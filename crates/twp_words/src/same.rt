@@ -16,12 +16,12 @@ fn begin_alike(word: &[u8], text: &[u8]) -> bool {
     }
 }
 
-/// Whether a word is one of these words, which are sorted, and all have as many bytes as it has, and a space between them. A
-/// list in code calls this with a row of words for each length: so only the few words of this length are
-/// compared, and they are proved at once, not one by one. Rows that a `match` returned would become a table
-/// of pointers, each of which is set at every start of the program. The number before the words has a bit for
-/// the first byte of each of them, and one for the last byte, which rules out most words before any is
-/// compared.
+/// Whether a word is one of these words, which are sorted, and all have as many bytes as it has,
+/// and a space between them. A list in code calls this with a row of words for each length: so only
+/// the few words of this length are compared, and they are proved at once, not one by one. Rows
+/// that a `match` returned would become a table of pointers, each of which is set at every start of
+/// the program. The number before the words has a bit for the first byte of each of them, and one
+/// for the last byte, which rules out most words before any is compared.
 #[inline(always)]
 pub(crate) fn is_among(word: &[u8], edges: u64, words: &str) -> bool {
     has_edges(word, edges) && has_row(word, words)
@@ -40,24 +40,41 @@ fn has_edges(word: &[u8], edges: u64) -> bool {
     }
 }
 
-/// Whether a word is one of these words, which are sorted. Only a row that begins with its first byte is compared
-/// further.
+/// The most times that the rows of a list are halved: no list has as many as this allows.
+const HALVINGS_MOST: usize = 16;
+
+/// Whether a word is one of these words, which are sorted: half of the rows that are left are ruled
+/// out by each comparison.
 #[inline(never)]
 fn has_row(word: &[u8], words: &str) -> bool {
-    let [first, ..] = word else {
-        return false;
-    };
     let rows = words.as_bytes();
-    for start in (0..rows.len()).step_by(word.len() + 1) {
-        let head = rows[start];
-        if head > *first {
+    let size = word.len() + 1;
+    let mut low: usize = 0;
+    let mut high: usize = (rows.len() + 1) / size;
+    for _ in 0..HALVINGS_MOST {
+        if low >= high {
             return false;
         }
-        if head == *first && is_row(&rows[start..], word) {
-            return true;
+        let middle = low.wrapping_add(high) / 2;
+        let row = rows.get(middle.wrapping_mul(size)..).unwrap_or(b"");
+        match first_difference(row, word) {
+            Some((one, other)) if one < other => low = middle.wrapping_add(1),
+            Some(_) => high = middle,
+            None => return true,
         }
     }
     false
+}
+
+/// The first byte of a row that isn't that of a word, and the word's byte. Both are short, so they
+/// are compared byte by byte.
+fn first_difference(row: &[u8], word: &[u8]) -> Option<(u8, u8)> {
+    for (one, other) in row.iter().zip(word) {
+        if one != other {
+            return Some((*one, *other));
+        }
+    }
+    None
 }
 
 /// Which of these words a word is, counted from 0.

@@ -1,7 +1,8 @@
 //! What is beside words of an exception, numbers in words, and hyphens; and meridians of letters alone.
 ghost use Rattle.std.specs.Prelude.{◌≡◌};
 ghost use Rattle.twp_rules.specs.Edges.{begins_with_one, ends_with_one, is_one_of};
-ghost use Rattle.twp_rules.specs.Endings.{all_but, before_articles, but_what, dash_marks, first_exceptions, meridian_letters, tens_ends, words_apart};
+ghost use Rattle.twp_rules.specs.Endings.{all_but, before_articles, but_what, dash_marks, first_exceptions, land_joints, meridian_letters};
+ghost use Rattle.twp_rules.specs.Endings.{section_joints, tens_ends, words_apart};
 
 use crate::rows::{begins_with_one, ends_with_one, is_one_of};
 
@@ -16,10 +17,17 @@ pub(crate) fn has_tens_ends(seen: &[u8]) -> bool
 }
 
 /// The texts `meridian_letters` of the specification.
-static MERIDIAN_LETTERS: [[u8; 21]; 7] = [
+static MERIDIAN_LETTERS: [[u8; 21]; 14] = [
     *b"w. m.________________",
     *b"w.m._________________",
     *b"w m__________________",
+    *b"n.m.p.m._____________",
+    *b"n.m.p.m______________",
+    *b"n. m. p. m.__________",
+    *b"s.l.m._______________",
+    *b"s.l.b.m._____________",
+    *b"s.l.b.&m.____________",
+    *b"s.b.m._______________",
     *b"north dakota_________",
     *b"south dakota_________",
     *b"state of north dakota",
@@ -34,7 +42,7 @@ pub(crate) fn is_in_meridian_letters(seen: &[u8]) -> bool
         seen,
         0x0088_4000,
         0x0010_c001,
-        0x0024_2003,
+        0x0024_3007,
         &MERIDIAN_LETTERS,
     )
 }
@@ -114,4 +122,31 @@ pub(crate) fn has_before_articles(seen: &[u8]) -> bool
     ensures { result ≡ ends_with_one seen.now before_articles }
 {
     ends_with_one(seen, 0x0000_0401, &BEFORE_ARTICLES)
+}
+
+/// The texts `land_joints` of the specification.
+static LAND_JOINTS: [[u8; 8]; 4] = [*b"____and ", *b"and the ", *b"______& ", *b"__& the "];
+
+/// Whether a text ends with one of them.
+pub(crate) fn has_land_joints(seen: &[u8]) -> bool
+    ensures { result ≡ ends_with_one seen.now land_joints }
+{
+    ends_with_one(seen, 0x0000_0001, &LAND_JOINTS)
+}
+
+/// The texts `section_joints` of the specification.
+static SECTION_JOINTS: [[u8; 12]; 6] = [
+    *b"_of section ",
+    *b"____of sec. ",
+    *b"_____of sec ",
+    *b"of sections ",
+    *b"___of secs. ",
+    *b"____of secs ",
+];
+
+/// Whether a text ends with one of them.
+pub(crate) fn has_section_joints(seen: &[u8]) -> bool
+    ensures { result ≡ ends_with_one seen.now section_joints }
+{
+    ends_with_one(seen, 0x0000_0001, &SECTION_JOINTS)
 }

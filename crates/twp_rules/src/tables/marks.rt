@@ -21,6 +21,7 @@ pub(crate) fn is_in_commas(seen: &[u8], written: &[u8]) -> bool
         || is_entry(seen, b"\xE2\x80\x94", written, b",")
         || is_entry(seen, b"|", written, b",")
         || is_entry(seen, b"+", written, b",")
+        || is_entry(seen, b"plus", written, b",")
 }
 
 /// The table `semicolons` of the specification.

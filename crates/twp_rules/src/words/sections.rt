@@ -2,7 +2,7 @@
 ghost use Rattle.std.specs.Prelude.{◌≡◌, [], ◌∷◌};
 ghost use Rattle.twp_rules.specs.Edges.{is_one_of};
 ghost use Rattle.twp_rules.specs.Words.{column_words, moved_section_words, moved_heading_words};
-ghost use Rattle.twp_rules.specs.Words.{section_names, list_words, location_marks, township_words};
+ghost use Rattle.twp_rules.specs.Words.{letter_marks, section_names, list_words, location_marks, township_words};
 ghost use Rattle.twp_rules.specs.Words.{tier_words, range_words};
 
 use crate::rows::is_one_of;
@@ -307,6 +307,13 @@ pub(crate) fn is_in_list_words(word: &[u8]) -> bool
     ensures { result ≡ is_one_of word.now list_words }
 {
     is_one_of(word, 0x0010_c226, 0x0024_d122, 0x801c_3238, &LIST_WORDS)
+}
+
+/// Whether a byte is one of the texts `letter_marks` of the specification.
+pub(crate) fn is_in_letter_marks(byte: u8) -> bool
+    ensures { result ≡ is_one_of (byte ∷ []) letter_marks }
+{
+    matches!(byte, b'.' | b':')
 }
 
 /// Whether a byte is one of the texts `location_marks` of the specification.
