@@ -5,7 +5,7 @@ use Rattle.std.specs.List.{Any}
 use Rattle.twp_grid.specs.Townships.{Designation}
 use Rattle.twp_grid.specs.Lands.{Lotting, SamePlaces}
 use Rattle.twp_suggest.specs.Descriptions.{IsLandOfText, IsOnlyLandOfText}
-use Rattle.twp_suggest.specs.Closed.{IsGiven, IsLandGiven, IsLandOf, IsWayGiven, NamesSame}
+use Rattle.twp_suggest.specs.Closed.{IsGiven, IsLandGiven, IsLandOfReadings, IsWayGiven, NamesSame}
 use Rattle.twp_suggest.specs.Closed.IsGiven.{by_land, by_text}
 use Rattle.twp_suggest.specs.Ways.{text_by}
 use Rattle.twp_suggest.specs.declared.way.Way.{Way}
@@ -22,7 +22,7 @@ any_here P readings index reading default within is such =
 pub land_of_one : (lots : Lotting) (readings : List Reading) (text : List ℕ) (township : Designation)
     (places : ℕ → ℕ → ℕ → Bool) → IsOnlyLandOfText lots text places
     → Any (NamesSame lots township places) readings
-    → IsLandOf lots readings text township
+    → IsLandOfReadings lots readings text township
 land_of_one lots readings text township places only given others is =
     subst (λ (named : ℕ → ℕ → ℕ → Bool). Any (NamesSame lots township named) readings)
     (sym (only township others is)) given
@@ -35,7 +35,7 @@ is_same lots township places more reading named same = record { more = more; nam
 pub is_land_given : (lots : Lotting) (readings : List Reading) (own : Reading) (text : List ℕ)
     (township : Designation)
     (places : ℕ → ℕ → ℕ → Bool) → IsLandOfText lots township own.text.items places
-    → IsLandOf lots readings text township → IsLandGiven lots readings own text
+    → IsLandOfReadings lots readings text township → IsLandGiven lots readings own text
 is_land_given lots readings own text township places of_own given =
     record { township = township; places = places; of_own = of_own; given = given }
 

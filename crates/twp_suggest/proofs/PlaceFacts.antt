@@ -1,24 +1,8 @@
 -- What is at a place decides over what is before it; over plain values.
-use Rattle.std.proofs.Common.{◌≡◌, ◌==◌, ◌||◌, ◌<◌, ◌+◌, ◌-◌, Bool, true, false, List, ℕ, suc, refl, sym, ap}
-use Rattle.std.proofs.Common.{◌∙◌}
-use Rattle.std.proofs.Common.{arith, length, slice_index}
-use Rattle.std.proofs.lemmas.List.{length-map}
-use Rattle.std.specs.Char.{to_ascii_lowercase}
-use Rattle.std.specs.Str.{str_to_ascii_lowercase}
-use Rattle.twp_grammar.specs.Tokens.{is_white, same_bytes}
-use Rattle.twp_rules.proofs.SameTexts.{same_tells}
+use Rattle.std.proofs.Common.{◌≡◌, ◌==◌, ◌||◌, ◌<◌, ◌+◌, ◌-◌, true, false, List, ℕ, suc, refl}
+use Rattle.std.proofs.Common.{arith, slice_index}
+use Rattle.twp_grammar.specs.Tokens.{is_white}
 use Rattle.twp_suggest.specs.Assumptions.{is_between_words, last_before, white_start, word_start}
-
--- texts of different lengths are different
-pub other_length : (seen text : List ℕ) → (length seen ≡ length text → ⊥)
-    → same_bytes (str_to_ascii_lowercase seen) text ≡ false
-other_length seen text other = by_test (same_bytes (str_to_ascii_lowercase seen) text) refl
-  where
-    by_test : (t : Bool) → same_bytes (str_to_ascii_lowercase seen) text ≡ t → t ≡ false
-    by_test true e =
-        absurd (other (sym (length-map seen to_ascii_lowercase)
-        ∙ ap length (same_tells (str_to_ascii_lowercase seen) text e)))
-    by_test false e = refl
 
 -- white space and periods are passed over, from a place backward
 pub passed_before : (text : List ℕ) (at count : ℕ) → count < at

@@ -19,8 +19,8 @@ pub record NamesSame (lots : Lotting) (township : Designation) (places : ℕ →
   pub same : SamePlaces places more
 
 -- a text names no land in a township, or that of one of some readings
-abbrev pub IsLandOf : Lotting → List Reading → List ℕ → Designation → Type 0
-IsLandOf lots readings text township =
+abbrev pub IsLandOfReadings : Lotting → List Reading → List ℕ → Designation → Type 0
+IsLandOfReadings lots readings text township =
     (others : ℕ → ℕ → ℕ → Bool) → IsLandOfText lots township text others
     → Any (NamesSame lots township others) readings
 
@@ -30,7 +30,7 @@ pub record IsLandGiven (lots : Lotting) (readings : List Reading) (own : Reading
   pub township : Designation
   pub places : ℕ → ℕ → ℕ → Bool
   pub of_own : IsLandOfText lots township own.text.items places
-  pub given : IsLandOf lots readings text township
+  pub given : IsLandOfReadings lots readings text township
 
 -- a text is the text of one of some readings, or names no land that none of them names
 pub data IsGiven (lots : Lotting) (readings : List Reading) (own : Reading) (text : List ℕ) : Type 0 where

@@ -12,7 +12,7 @@ use Rattle.twp_grammar.specs.OnPlat.{IsLandOfItems}
 use Rattle.twp_grammar.specs.Sentences.{IsReadAs}
 use Rattle.twp_read.specs.Doubts.{HasNoDoubtfulPlace}
 use Rattle.twp_spell.specs.CanonicalText.{IsCanonicalText}
-use Rattle.twp_suggest.specs.Excepting.{IsParted, IsSplit}
+use Rattle.twp_suggest.specs.Excepting.{IsParted, AreAroundExcept}
 use Rattle.twp_suggest.specs.declared.meaning.wording.Excepted.{Excepted}
 use Rattle.twp_suggest.specs.declared.meaning.manner.Manner.{Manner}
 use Rattle.twp_suggest.specs.declared.meaning.manner.Manner.TheVariants.{Changed, LotsNamed, Remainder}
@@ -65,7 +65,7 @@ IsNoException lots township land less = (places others : ℕ → ℕ → ℕ →
 pub record IsOfDivisions (lots : Lotting) (township : Designation) (made : List ℕ) : Type 0 where
   pub land : List ℕ
   pub less : List ℕ
-  pub split : IsSplit made land less
+  pub split : AreAroundExcept made land less
   pub is_none : IsNoException lots township land less
 
 -- the text is read as items, which name these places; an aliquot part may include lots, but the plat has land

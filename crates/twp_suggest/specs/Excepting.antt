@@ -27,8 +27,8 @@ HasNoSemicolon text = (at : ℕ) → at < length text → slice_index text at �
 abbrev pub HasNoExceptBefore : List ℕ → ℕ → Type 0
 HasNoExceptBefore text place = (at : ℕ) → at < place → take (length except) (drop at text) ≢ except
 
--- a text before its first ` except `, and after it
-pub record IsSplit (text land less : List ℕ) : Type 0 where
+-- these are a text before its first ` except `, and after it
+pub record AreAroundExcept (text land less : List ℕ) : Type 0 where
   pub is : text ≡ land ++ except ++ less
   pub first : HasNoExceptBefore text (length land)
 
@@ -83,6 +83,7 @@ pub record IsDivided (made whole excepted : List ℕ) : Type 0 where
 -- the land of a text, what is excepted from it, and the offset of the text of this: what is before the first
 -- ` except `, and what is after it; or, if a semicolon is after it, what the divisions keep and take
 pub data IsParted (made whole excepted : List ℕ) (at : ℕ) : Type 0 where
-  of_last : IsSplit made whole excepted → at ≡ length (whole ++ except) → IsParted made whole excepted at
-  of_each : (land less : List ℕ) → IsSplit made land less → ¬ HasNoSemicolon less
+  of_last : AreAroundExcept made whole excepted → at ≡ length (whole ++ except)
+      → IsParted made whole excepted at
+  of_each : (land less : List ℕ) → AreAroundExcept made land less → ¬ HasNoSemicolon less
       → IsDivided made whole excepted → at ≡ 0 → IsParted made whole excepted at

@@ -8,8 +8,8 @@ ghost use Rattle.twp_suggest.specs.Assumptions.{if_joined, is_between_steps};
 ghost use Rattle.twp_suggest.specs.Assumptions.{last_before, read_by, side_words};
 ghost use Rattle.twp_suggest.specs.Assumptions.{words_of};
 
-use crate::bytes::{after, between, byte_at, is_text, is_white, without_white};
-use twp_rules::{Change, Rule, is_side, is_worn, word_of};
+use crate::bytes::{after, between, byte_at, is_white, without_white};
+use twp_rules::{Change, Rule, is_side, is_text, is_worn, word_of};
 
 /// What a change of a reading assumes that the text doesn't say.
 #[derive(Clone, Copy, PartialEq, Eq)]

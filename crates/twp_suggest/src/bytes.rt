@@ -1,7 +1,6 @@
 //! Bytes of a text, at any place and from one up to another.
 ghost use Rattle.std.specs.Prelude.{◌≡◌, ◌≤◌, drop, length, slice_index, slice_range, take};
-ghost use Rattle.std.specs.Str.{str_to_ascii_lowercase};
-ghost use Rattle.twp_grammar.specs.Tokens.{is_white, same_bytes};
+ghost use Rattle.twp_grammar.specs.Tokens.{is_white};
 ghost use Rattle.twp_rules.specs.Edges.{without_white};
 
 /// The byte at a place, or 0 if there is none.
@@ -58,20 +57,4 @@ pub(crate) fn is_white(byte: u8) -> bool
     ensures { result ≡ is_white byte }
 {
     byte == b' ' || byte == b'\t' || byte == b'\n' || byte == b'\r'
-}
-
-/// Whether a text, with its letters in lowercase, is another one.
-#[tactic(auto, using(crate::proofs::PlaceFacts::other_length))]
-pub(crate) fn is_text(seen: &[u8], text: &[u8]) -> bool
-    ensures { result ≡ same_bytes (str_to_ascii_lowercase seen.now) text.now }
-{
-    if seen.len() != text.len() {
-        return false;
-    }
-    for index in 0..seen.len() {
-        if seen[index].to_ascii_lowercase() != text[index] {
-            return false;
-        }
-    }
-    true
 }

@@ -4,7 +4,8 @@ ghost use Rattle.twp_grammar.specs.Tokens.{seen as token};
 ghost use Rattle.twp_grid.specs.Lands.{lotting};
 ghost use Rattle.twp_rules.specs.declared.rule.Rule.TheVariants.{Word};
 ghost use Rattle.twp_rules.specs.Changes.{seen};
-ghost use Rattle.twp_suggest.specs.Closed.{AreClosed, AreWaysGiven, IsClosed, IsLandGiven, IsLandOf, IsWayGiven};
+ghost use Rattle.twp_suggest.specs.Closed.{AreClosed, AreWaysGiven, IsClosed, IsLandGiven};
+ghost use Rattle.twp_suggest.specs.Closed.{IsLandOfReadings, IsWayGiven};
 ghost use Rattle.twp_suggest.specs.Closed.{NamesSame};
 ghost use Rattle.twp_suggest.specs.Readings.{IsReading};
 ghost use Rattle.twp_suggest.specs.Sharing.{AreShared, AtToken, IsShared};
@@ -270,15 +271,15 @@ fn have_text(readings: &[Reading<'_>], text: &[u8]) -> bool
     ensures { IsTrue result → Any (λ reading. reading.text.items ≡ text.now) readings.now }
 {
     for reading in readings {
-        if is_text(reading, text) {
+        if has_text(reading, text) {
             return true;
         }
     }
     false
 }
 
-/// Whether this is the text of a reading.
-fn is_text(reading: &Reading<'_>, text: &[u8]) -> bool
+/// Whether a reading has this text.
+fn has_text(reading: &Reading<'_>, text: &[u8]) -> bool
     ensures { IsTrue result ↔ (reading.now.text.items ≡ text.now) }
 {
     reading.text.as_slice() == text
@@ -318,7 +319,7 @@ fn is_land_given<P: Lotting>(
     lots: &P,
 ) -> Result<bool, AllocError>
     ensures { IfOk result (λ it. it ≡ true →
-        IsLandOf (lotting (P.layout lots.now)) readings.now text.now township) }
+        IsLandOfReadings (lotting (P.layout lots.now)) readings.now text.now township) }
 {
     let mut land = Lanes::empty();
     let has_land = find_land(alloc, text, township, &mut land, lots)?;
@@ -351,7 +352,8 @@ fn have_land<P: Lotting>(
     Ok(false)
 }
 
-/// Whether a reading names this land in a township. Not inlined, since its set of land would be cleared for each text.
+/// Whether a reading names this land in a township. Not inlined, since its set of land would be
+/// cleared for each text.
 #[inline(never)]
 #[tactic(auto, using(crate::proofs::ClosedFacts::is_same))]
 fn names_land<P: Lotting>(

@@ -4,7 +4,7 @@ use crate::meaning::{find_land, find_named_land, first_township};
 use crate::writer::ChangeWriter;
 use std::alloc::{AllocError, Global};
 use twp_asides::plus;
-use twp_draft::{IndexRange, Names, Phrase, Placed, Role};
+use twp_draft::{IndexRange, Phrase, PhraseKind, Placed, Role};
 use twp_land::{Land, Lanes, Lotting};
 
 /// The land before a place, which moves from one place to the next.
@@ -97,7 +97,7 @@ impl<'p, 'a> ChangeWriter<'p, 'a> {
             if placed.role != role {
                 continue;
             }
-            if placed.phrase.names == Names::Sections {
+            if placed.phrase.kind == PhraseKind::Sections {
                 return self.plan.only_number(placed.phrase.numbers);
             }
             if let Some(section) = placed.section {
@@ -144,7 +144,11 @@ impl<'p, 'a> ChangeWriter<'p, 'a> {
 /// Whether a phrase is land that is kept.
 fn is_land(placed: Placed) -> bool {
     let is_kept = matches!(placed.role, Role::Kept(_));
-    is_kept && matches!(placed.phrase.names, Names::Part | Names::Lots | Names::All)
+    is_kept
+        && matches!(
+            placed.phrase.kind,
+            PhraseKind::Part | PhraseKind::Lots | PhraseKind::All
+        )
 }
 
 /// The text of a section.
@@ -157,8 +161,8 @@ fn section_text(alloc: Global, number: u16) -> Result<Vec<u8>, AllocError> {
     Ok(text)
 }
 
-/// Whether the land of a text that names no township is on the plat only with its lots named. Not inlined, since its set
-/// of land would be cleared for each text.
+/// Whether the land of a text that names no township is on the plat only with its lots named. Not
+/// inlined, since its set of land would be cleared for each text.
 #[inline(never)]
 fn includes_lots<P: Lotting>(alloc: Global, text: &[u8], lots: &P) -> Result<bool, AllocError> {
     let mut land = Lanes::empty();

@@ -5,7 +5,7 @@ use crate::joints::Shared;
 use crate::outline::{Outline, Parts};
 use crate::writer::ChangeWriter;
 use twp_asides::plus;
-use twp_draft::{Form, Names, Placed};
+use twp_draft::{Form, PhraseKind, Placed};
 use twp_grammar::Kind;
 use twp_rules::{Change, Rule};
 
@@ -26,7 +26,7 @@ impl<'p, 'a> ChangeWriter<'p, 'a> {
         };
         let joining = self.plan.joining(gap, left_out);
         if let (Some(one), Some(other)) = (before, after) {
-            if one.phrase.names == Names::Except || other.phrase.names == Names::Except {
+            if one.phrase.kind == PhraseKind::Except || other.phrase.kind == PhraseKind::Except {
                 return self.write_pieces(gap, left_out, Some(gap.end), false, out);
             }
             if is_joint(one, other) {
@@ -222,6 +222,7 @@ impl<'p, 'a> ChangeWriter<'p, 'a> {
         match self.plan.draft.pieces.lower(index) {
             b"," | b";" | b":" | b"." | b"&" | b"-" | b"|" | b"+" => true,
             b"/" => !is_comma,
+            b"plus" => is_comma,
             b"\xE2\x80\x93" | b"\xE2\x80\x94" => is_comma,
             _ => false,
         }
@@ -242,7 +243,11 @@ impl<'p, 'a> ChangeWriter<'p, 'a> {
     pub(crate) fn leads_on(&self, index: usize) -> bool {
         let pieces = &self.plan.draft.pieces;
         match pieces.kind(index) {
-            Kind::Other => pieces.is(index, b"also") || pieces.is(index, b"together"),
+            Kind::Other => {
+                pieces.is(index, b"also")
+                    || pieces.is(index, b"plus")
+                    || pieces.is(index, b"together")
+            }
             Kind::BadByte => pieces.is(index, b"+") || pieces.is(index, b"/"),
             _ => false,
         }
@@ -261,7 +266,10 @@ impl<'p, 'a> ChangeWriter<'p, 'a> {
         let is_before_moved = match rest {
             [placed, ..] => {
                 let is_next = placed.phrase.first == after || placed.phrase.first == plus(index, 1);
-                let is_moved = matches!(placed.phrase.names, Names::Sections | Names::Heading);
+                let is_moved = matches!(
+                    placed.phrase.kind,
+                    PhraseKind::Sections | PhraseKind::Heading
+                );
                 is_next && is_moved && !(pieces.is(index, b"and") || pieces.is(index, b"&"))
             }
             [] => false,
@@ -288,9 +296,9 @@ impl<'p, 'a> ChangeWriter<'p, 'a> {
 
     /// Leaves out a phrase, with the white space before it, but for words that a rule looks at as a whole.
     fn write_left_out(&mut self, placed: &Placed, out: &mut Outline<'a>) {
-        let rule = match placed.phrase.names {
-            Names::Nothing(left_out) => left_out.rule(),
-            Names::Heading => Rule::MovedHeading,
+        let rule = match placed.phrase.kind {
+            PhraseKind::Nothing(left_out) => left_out.rule(),
+            PhraseKind::Heading => Rule::MovedHeading,
             _ => Rule::MovedSection,
         };
         let first = placed.phrase.first;

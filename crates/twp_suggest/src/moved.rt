@@ -4,7 +4,7 @@ use crate::outline::Outline;
 use crate::writer::ChangeWriter;
 use std::alloc::{AllocError, Global};
 use twp_asides::plus;
-use twp_draft::{IndexRange, Names, Phrase, Placed, Role};
+use twp_draft::{IndexRange, Phrase, PhraseKind, Placed, Role};
 use twp_read::TEXT_LIMIT;
 use twp_rules::Rule;
 
@@ -18,7 +18,7 @@ impl<'p, 'a> ChangeWriter<'p, 'a> {
     /// The township and range that have to be written first, if they aren't.
     pub(crate) fn moved_heading(&self, list: &[Placed]) -> Option<Phrase> {
         for placed in list {
-            if placed.phrase.names == Names::Heading {
+            if placed.phrase.kind == PhraseKind::Heading {
                 return match placed.role {
                     Role::Kept(_) => None,
                     Role::LeftOut => Some(placed.phrase),
@@ -38,7 +38,7 @@ impl<'p, 'a> ChangeWriter<'p, 'a> {
         let Some(heading) = heading else {
             return;
         };
-        let from = self.plan.draft.extent();
+        let from = self.plan.draft.checkpoint();
         let first = self.plan.draft.changes.len();
         let place = self.plan.draft.pieces.start(placed.phrase.first);
         self.plan.draft.copy_heading(place, heading);
@@ -58,11 +58,11 @@ impl<'p, 'a> ChangeWriter<'p, 'a> {
         let Some(numbers) = placed.section else {
             return Ok(());
         };
-        let from = self.plan.draft.extent();
+        let from = self.plan.draft.checkpoint();
         let first = self.plan.draft.changes.len();
         let place = self.plan.draft.pieces.start(placed.phrase.first);
         let count = numbers.end.saturating_sub(numbers.first);
-        let is_each = count > 1 && placed.phrase.names == Names::Part;
+        let is_each = count > 1 && placed.phrase.kind == PhraseKind::Part;
         let word: &'static [u8] = if count == 1 || is_each {
             b"sec. "
         } else {
@@ -125,7 +125,7 @@ impl<'p, 'a> ChangeWriter<'p, 'a> {
             match land.role {
                 Role::LeftOut => {}
                 role if role == group => {
-                    if land.phrase.names != Names::Part {
+                    if land.phrase.kind != PhraseKind::Part {
                         self.plan.draft.doubt();
                     }
                     parts.push(land.phrase)?;

@@ -4,7 +4,7 @@ use crate::arranged::has_except;
 use crate::writer::ChangeWriter;
 use std::alloc::{AllocError, Global};
 use twp_asides::plus;
-use twp_draft::{Again, Names, Phrase, Placed, Role};
+use twp_draft::{Again, Phrase, PhraseKind, Placed, Role};
 use twp_grammar::Kind;
 use twp_rules::{Change, Rule};
 
@@ -221,7 +221,7 @@ impl<'p, 'a> ChangeWriter<'p, 'a> {
     /// Whether the last phrase is the name of a column for land, which is missing. It is left out.
     fn ends_with_label(&self, list: &[Placed]) -> bool {
         match list.last() {
-            Some(placed) if matches!(placed.phrase.names, Names::Nothing(_)) => {
+            Some(placed) if matches!(placed.phrase.kind, PhraseKind::Nothing(_)) => {
                 let label = self
                     .plan
                     .draft
@@ -268,7 +268,7 @@ impl<'p, 'a> ChangeWriter<'p, 'a> {
 /// The last of the phrases that are left out, if it is a section, which is written before its land.
 fn moved_section(left_out: &[Placed]) -> Option<&Placed> {
     match left_out.last() {
-        Some(placed) if placed.phrase.names == Names::Sections => Some(placed),
+        Some(placed) if placed.phrase.kind == PhraseKind::Sections => Some(placed),
         _ => None,
     }
 }
@@ -277,7 +277,7 @@ fn moved_section(left_out: &[Placed]) -> Option<&Placed> {
 fn has_several_sections(list: &[Placed]) -> bool {
     for placed in list {
         let numbers = placed.phrase.numbers;
-        if placed.phrase.names == Names::Sections && numbers.end > plus(numbers.first, 1) {
+        if placed.phrase.kind == PhraseKind::Sections && numbers.end > plus(numbers.first, 1) {
             return true;
         }
     }

@@ -1,13 +1,13 @@
 //! The tokens of a part of a section: how many `of` it has, where it ends, and the parts listed after it.
 ghost use Rattle.std.specs.Prelude.{◌≡◌, map};
 ghost use Rattle.twp_grammar.specs.Tokens.{seen as token};
-ghost use Rattle.twp_read.specs.Doubts.{after_part, is_and, is_of, is_of_part, is_of_step};
+ghost use Rattle.twp_read.specs.Doubts.{is_and, is_of};
 ghost use Rattle.twp_suggest.specs.Sharing.{after_of, begins_part, is_fraction, first_at, is_comma};
 ghost use Rattle.twp_suggest.specs.Sharing.{is_listed, is_nothing, is_part_of, is_the, last_part, leads_part};
 ghost use Rattle.twp_suggest.specs.Sharing.{of_count, part_after_and, without_the};
 
 use twp_grammar::{Kind, Token};
-use twp_read::begins_step;
+use twp_read::{begins_step, is_of_part, is_of_step};
 
 /// Whether a token is a fraction.
 pub(crate) fn is_fraction(kind: Kind) -> bool
@@ -117,20 +117,6 @@ pub(crate) fn part_after_and<'a, 'b>(tokens: &'b [Token<'a>]) -> &'b [Token<'a>]
     &[]
 }
 
-/// The tokens after the part that they begin with.
-pub(crate) fn after_part<'a, 'b>(tokens: &'b [Token<'a>]) -> &'b [Token<'a>]
-    ensures { map token result.now ≡ after_part (map token tokens.now) }
-{
-    let mut left = tokens;
-    while let [first, rest @ ..] = left {
-        if !is_of_part(first.kind) {
-            break;
-        }
-        left = rest;
-    }
-    left
-}
-
 /// Whether there are no tokens.
 fn is_nothing(tokens: &[Token<'_>]) -> bool
     ensures { result ≡ is_nothing (map token tokens.now) }
@@ -180,18 +166,4 @@ fn is_listed(kind: Kind) -> bool
     ensures { result ≡ is_listed kind }
 {
     is_of_step(kind) || is_and(kind) || is_comma(kind)
-}
-
-/// Whether a token is letters or a fraction of a step, `of`, or `the`.
-fn is_of_part(kind: Kind) -> bool
-    ensures { result ≡ is_of_part kind }
-{
-    is_of_step(kind) || matches!(kind, Kind::Of | Kind::The)
-}
-
-/// Whether a token is letters or a fraction of a step.
-fn is_of_step(kind: Kind) -> bool
-    ensures { result ≡ is_of_step kind }
-{
-    begins_step(kind) || matches!(kind, Kind::Half | Kind::Quarter)
 }

@@ -10,7 +10,7 @@ ghost use Rattle.twp_suggest.specs.Readings.{AreSomeReadings, LiesExcepted, MayB
 
 use crate::candidates::{made_by, outline_of};
 use crate::closed::are_closed;
-use crate::meaning::{Manner, Unread, Wording, described, find_land, find_own_land, is_clear};
+use crate::meaning::{Manner, NoReading, Wording, described, find_land, find_own_land, is_clear};
 use crate::outline::Outline;
 use crate::repeated::are_repeated;
 use std::alloc::{AllocError, Global};
@@ -29,9 +29,9 @@ pub struct Reading<'a> {
 /// The most readings that are given.
 const READINGS_MOST: usize = 8;
 
-/// The readings of a text as descriptions on a plat with these lots, in a fixed order: none where nothing is sure, one where the text
-/// can be read in only one way, and at most 8. Which there are depends on the phrases that are found; what is
-/// promised of each doesn't.
+/// The readings of a text as descriptions on a plat with these lots, in a fixed order: none where
+/// nothing is sure, one where the text can be read in only one way, and at most 8. Which there are
+/// depends on the phrases that are found; what is promised of each doesn't.
 #[tactic(auto, using(crate::proofs::ReadingFacts::none_of, crate::proofs::ReadingFacts::some_of, crate::proofs::ReadingFacts::no_readings))]
 pub fn readings_of<'a, F: FindsPhrases, P: Lotting>(
     alloc: Global,
@@ -72,9 +72,9 @@ fn readings_by<'a, P: Lotting>(
         let again = &outline.again;
         let found = match reading_with(alloc, text, changes, outline.has_except, again, lots) {
             Ok(found) => found,
-            Err(Unread::Unfit) => continue,
-            Err(Unread::Refused) => return Ok(Vec::new(alloc)),
-            Err(Unread::Memory) => return Err(AllocError),
+            Err(NoReading::Unfit) => continue,
+            Err(NoReading::Refused) => return Ok(Vec::new(alloc)),
+            Err(NoReading::Memory) => return Err(AllocError),
         };
         let Some(reading) = found else {
             continue;
@@ -138,7 +138,7 @@ fn reading_with<'a, P: Lotting>(
     has_except: bool,
     again: &Again<'_>,
     lots: &P,
-) -> Result<Option<Reading<'a>>, Unread>
+) -> Result<Option<Reading<'a>>, NoReading>
     ensures { IfOk result (λ it. IfSome it (IsReading (lotting (P.layout lots.now)) text.now)) }
 {
     if !are_changes(text, changes.as_slice()) {
@@ -174,20 +174,20 @@ fn unfit_or_refused<'a, P: Lotting>(
     changes: &[Change<'_>],
     has_except: bool,
     lots: &P,
-) -> Result<Option<Reading<'a>>, Unread>
+) -> Result<Option<Reading<'a>>, NoReading>
     ensures { IfOk result (λ it. it ≡ None) }
 {
     let Some(made) = made_by(alloc, text, changes)? else {
-        return Err(Unread::Refused);
+        return Err(NoReading::Refused);
     };
     match described(alloc, made, has_except, lots)? {
-        Some(_) => Err(Unread::Refused),
+        Some(_) => Err(NoReading::Refused),
         None => Ok(None),
     }
 }
 
-/// Whether the steps that changes of a text write again are all of their part. Only a text that is accepted is
-/// asked for it: one that names land twice may write thousands of them again.
+/// Whether the steps that changes of a text write again are all of their part. Only a text that is
+/// accepted is asked for it: one that names land twice may write thousands of them again.
 fn are_copied_whole<P: Lotting>(
     alloc: Global,
     text: &[u8],

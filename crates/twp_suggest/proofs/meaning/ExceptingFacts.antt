@@ -6,9 +6,10 @@ use Rattle.std.proofs.lemmas.List.{append-nil, append_assoc, flat_map_more, leng
 use Rattle.std.proofs.lemmas.List.{length-take}
 use Rattle.std.proofs.lemmas.List.Elements.{All-append, All-cons, All-nil}
 use Rattle.twp_suggest.specs.Excepting.{Division, HasNoExceptBefore, HasNoSemicolon, IsDivided, IsDivision}
-use Rattle.twp_suggest.specs.Excepting.{IsSplit, all_of, all_taken, alone, blank, except, kept, mark_after}
+use Rattle.twp_suggest.specs.Excepting.{AreAroundExcept, all_of, all_taken, alone, blank, except, kept}
+use Rattle.twp_suggest.specs.Excepting.{mark_after}
 use Rattle.twp_suggest.specs.Excepting.{semicolon, taken, without, written}
-use Rattle.twp_suggest.specs.steps.ExceptingSteps.{IsAdded}
+use Rattle.twp_suggest.specs.steps.ExceptingSteps.{IsDivisionAdded}
 
 -- the mark before the next exception, after some divisions
 abbrev pub mark_of : ℕ → List Division → ℕ
@@ -51,7 +52,7 @@ mark_more mark (first ∷ more) division = mark_more (mark_after mark first) mor
 
 -- one division more, which ends with a semicolon
 pub next_division : (made rest more whole further excepted others text : List ℕ) (mark after : ℕ)
-    → AreSoFar made rest whole excepted mark → IsAdded text mark after whole further excepted others
+    → AreSoFar made rest whole excepted mark → IsDivisionAdded text mark after whole further excepted others
     → rest ≡ text ++ semicolon ∷ more
     → AreSoFar made more (further ++ semicolon ∷ []) (others ++ blank ∷ []) after
 next_division made rest more whole further excepted others text mark after so is here = record {
@@ -104,7 +105,7 @@ all_divided made whole excepted mark so = record {
 
 -- the last division
 pub last_division : (made rest whole further excepted others text : List ℕ) (mark after : ℕ)
-    → AreSoFar made rest whole excepted mark → IsAdded text mark after whole further excepted others
+    → AreSoFar made rest whole excepted mark → IsDivisionAdded text mark after whole further excepted others
     → rest ≡ text → IsDivided made further others
 last_division made rest whole further excepted others text mark after so is here =
     all_divided made further others after
@@ -133,7 +134,7 @@ too_short rest short same =
 pub land_added : (text : List ℕ) (mark : ℕ) (whole further excepted others : List ℕ) → HasNoSemicolon text
     → HasNoExceptBefore text (length text) → further ≡ whole ++ kept (alone text)
     → others ≡ excepted ++ taken mark (alone text)
-    → IsAdded text mark mark whole further excepted others
+    → IsDivisionAdded text mark mark whole further excepted others
 land_added text mark whole further excepted others none first kept_is taken_is = record {
   division = alone text;
   is = (none, first);
@@ -144,9 +145,9 @@ land_added text mark whole further excepted others none first kept_is taken_is =
 }
 
 pub exception_added : (text : List ℕ) (mark : ℕ) (whole further excepted others land less : List ℕ)
-    → HasNoSemicolon text → IsSplit text land less → further ≡ whole ++ kept (without land less)
+    → HasNoSemicolon text → AreAroundExcept text land less → further ≡ whole ++ kept (without land less)
     → others ≡ excepted ++ taken mark (without land less)
-    → IsAdded text mark semicolon whole further excepted others
+    → IsDivisionAdded text mark semicolon whole further excepted others
 exception_added text mark whole further excepted others land less none split kept_is taken_is = record {
   division = without land less;
   is = (

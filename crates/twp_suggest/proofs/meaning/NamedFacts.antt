@@ -22,7 +22,7 @@ use Rattle.twp_spell.specs.CanonicalText.{IsCanonicalText}
 use Rattle.twp_suggest.specs.Descriptions.{AreLotsNamed, AreNamed, NamesTownship, as_written}
 use Rattle.twp_resolve.specs.steps.ResolvingSteps.{AreAdded}
 use Rattle.twp_resolve.proofs.PlaceAnswers.{pairs_of_apart}
-use Rattle.twp_resolve.proofs.ResolvingFacts.{IsNext, next_is, parts_count}
+use Rattle.twp_resolve.proofs.ResolvingFacts.{IsNextItem, next_is, parts_count}
 
 -- the land of the items before an index
 pub record AreNamedTo (lots : Lotting) (items : List Item) (index section : ℕ) (places : ℕ → ℕ → ℕ → Bool)
@@ -43,7 +43,7 @@ pub named_next : (lots : Lotting) (items : List Item) (index section : ℕ) (it 
     → AreAdded (item_places lots (item_of section it)) places new
     → AreNamedTo lots items (index + 1) (section_after section it) new
 named_next lots items index section it places new inside at so_far added =
-    let next : IsNext items index section it = next_is items index section it inside at so_far.left in
+    let next : IsNextItem items index section it = next_is items index section it inside at so_far.left in
     record {
       left = next.after;
       apart = λ i d before within. elim (cases_lt i index) [

@@ -3,7 +3,8 @@ use Rattle.std.specs.Prelude.{◌≡◌, ℕ, List, ◌++◌}
 use Rattle.twp_suggest.specs.Excepting.{Division, IsDivision, kept, mark_after, taken, written}
 
 -- a division of this text was added to both, and this is the mark before the next exception
-pub record IsAdded (text : List ℕ) (mark after : ℕ) (whole more excepted further : List ℕ) : Type 0 where
+pub record IsDivisionAdded (text : List ℕ) (mark after : ℕ) (whole more excepted further : List ℕ)
+    : Type 0 where
   pub division : Division
   pub is : IsDivision division
   pub text_is : text ≡ written division

@@ -1,10 +1,11 @@
-//! Acreage that a text states. It may differ from that of the land, which counts; but with a quarter of it, or less, or
-//! nine tenths where a figure in acres follows an aliquot part, the text may mean a part of this land, or other land; and
-//! with twice of it, or four times, the part that contains this land (`larger_part`).
+//! Acreage that a text states. It may differ from that of the land, which counts; but with a
+//! quarter of it, or less, or nine tenths where a figure in acres follows an aliquot part, the text
+//! may mean a part of this land, or other land; and with twice of it, or four times, the part that
+//! contains this land (`larger_part`).
 
 use crate::arranged::plan::Plan;
 use twp_asides::{is_acres, is_of_count, plus, value_of_count};
-use twp_draft::{LeftOut, Names, Phrase, Placed, Role};
+use twp_draft::{LeftOut, Phrase, PhraseKind, Placed, Role};
 use twp_grammar::Kind;
 
 /// The nominal area of a section, in hundredths of an acre.
@@ -33,7 +34,7 @@ impl<'a> Plan<'a> {
         }
         for index in 0..list.len() {
             let placed = &list[index];
-            if placed.phrase.names != Names::Nothing(LeftOut::Acreage) {
+            if placed.phrase.kind != PhraseKind::Nothing(LeftOut::Acreage) {
                 continue;
             }
             if let (Some(acreage), Some(beside)) = (
@@ -90,17 +91,17 @@ impl<'a> Plan<'a> {
         }
         for placed in before {
             let phrase = placed.phrase;
-            match phrase.names {
-                Names::Nothing(LeftOut::Acreage) => {
+            match phrase.kind {
+                PhraseKind::Nothing(LeftOut::Acreage) => {
                     sum = 0;
                     last = 0;
                 }
                 // White space may separate the steps of one part.
-                Names::Part if phrase.first == end => {
+                PhraseKind::Part if phrase.first == end => {
                     last = self.share_of(phrase, last);
                     end = phrase.end;
                 }
-                Names::Part | Names::All => {
+                PhraseKind::Part | PhraseKind::All => {
                     sum = sum.saturating_add(last);
                     last = self.share_of(phrase, SECTION);
                     end = phrase.end;
@@ -137,16 +138,18 @@ impl<'a> Plan<'a> {
                 break;
             };
             let phrase = placed.phrase;
-            match (phrase.names, area) {
-                (Names::Lots, None) => return Some(self.lots_beside(phrase)),
+            match (phrase.kind, area) {
+                (PhraseKind::Lots, None) => return Some(self.lots_beside(phrase)),
                 // White space may separate the steps of one part.
-                (Names::Part, Some(part)) if phrase.end == first => {
+                (PhraseKind::Part, Some(part)) if phrase.end == first => {
                     area = Some(self.share_of(phrase, part));
                 }
                 (_, Some(_)) => break,
-                (Names::Part | Names::All, None) => area = Some(self.share_of(phrase, SECTION)),
+                (PhraseKind::Part | PhraseKind::All, None) => area = Some(self.share_of(
+                    phrase, SECTION,
+                )),
                 // The land of a section that is moved is before it.
-                (Names::Sections, None) if placed.role != Role::LeftOut => {
+                (PhraseKind::Sections, None) if placed.role != Role::LeftOut => {
                     has_section = true;
                     let count = phrase.numbers.end.saturating_sub(phrase.numbers.first);
                     sections = u64::from(u16::try_from(count).unwrap_or(1));
@@ -163,12 +166,12 @@ impl<'a> Plan<'a> {
             let Some(placed) = list.get(place) else {
                 break;
             };
-            match placed.phrase.names {
-                Names::Lots => return Some(self.lots_beside(placed.phrase)),
-                Names::Part | Names::All => {
+            match placed.phrase.kind {
+                PhraseKind::Lots => return Some(self.lots_beside(placed.phrase)),
+                PhraseKind::Part | PhraseKind::All => {
                     return Some(land_of(self.share_of(placed.phrase, SECTION)));
                 }
-                Names::Sections if has_section => break,
+                PhraseKind::Sections if has_section => break,
                 _ => {}
             }
         }
@@ -186,7 +189,7 @@ impl<'a> Plan<'a> {
     /// The area of a phrase in land of an area: that of its steps, if it is an aliquot part.
     pub(crate) fn share_of(&self, phrase: Phrase, whole: u64) -> u64 {
         let mut area = whole;
-        if phrase.names == Names::Part {
+        if phrase.kind == PhraseKind::Part {
             for step in self.draft.steps_of(phrase) {
                 area /= if step.written.ends_with(b"2") { 2 } else { 4 };
             }
@@ -302,7 +305,10 @@ fn land_of(area: u64) -> Beside {
 /// Whether a section or land is among some phrases.
 fn has_land(phrases: &[Placed]) -> bool {
     for placed in phrases {
-        if !matches!(placed.phrase.names, Names::Nothing(_) | Names::Heading) {
+        if !matches!(
+            placed.phrase.kind,
+            PhraseKind::Nothing(_) | PhraseKind::Heading
+        ) {
             return true;
         }
     }

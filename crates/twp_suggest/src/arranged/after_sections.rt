@@ -2,7 +2,7 @@
 
 use crate::arranged::plan::Plan;
 use twp_asides::plus;
-use twp_draft::{Form, LeftOut, Names, Phrase, Placed, Role};
+use twp_draft::{Form, LeftOut, Phrase, PhraseKind, Placed, Role};
 use twp_grammar::Kind;
 
 /// A group of land: the section, and what is known of its land so far.
@@ -55,12 +55,12 @@ impl GroupsSoFar {
     fn take_land(&mut self, placed: &mut Placed, group: Group) {
         placed.role = Role::Kept(self.count);
         self.is_awaited = false;
-        let names = placed.phrase.names;
+        let kind = placed.phrase.kind;
         let is_shared = group.is_shared || (!group.has_land && placed.section.is_some());
-        self.is_unsure = self.is_unsure || (is_shared && names != Names::Part);
+        self.is_unsure = self.is_unsure || (is_shared && kind != PhraseKind::Part);
         self.group = Some(Group {
             has_land: true,
-            has_part: group.has_part || names != Names::All,
+            has_part: group.has_part || kind != PhraseKind::All,
             is_shared,
             ..group
         });
@@ -108,24 +108,25 @@ impl<'a> Plan<'a> {
     /// Places a phrase.
     fn place_after(&self, placed: &mut Placed, found: &mut GroupsSoFar) {
         let phrase = placed.phrase;
-        match (phrase.names, found.group) {
-            (names, Some(group)) if is_of_exception(&group, names) => {
+        match (phrase.kind, found.group) {
+            (kind, Some(group)) if is_of_exception(&group, kind) => {
                 self.take_exception(placed, group, found)
             }
-            (Names::Nothing(_) | Names::Heading, _) => {}
-            (Names::Sections, Some(group))
+            (PhraseKind::Nothing(_) | PhraseKind::Heading, _) => {}
+            (PhraseKind::Sections, Some(group))
                 if group.has_land && self.is_same_section(group.section, phrase) => {
                 placed.role = Role::LeftOut;
                 found.is_unsure = found.is_unsure || found.is_awaited;
                 found.is_awaited = !self.is_after_of(phrase);
             }
-            (Names::Sections, group) => self.take_section_before_land(placed, group, found),
+            (PhraseKind::Sections, group) => self.take_section_before_land(placed, group, found),
             (_, Some(group)) => found.take_land(placed, group),
             (_, None) => found.is_unsure = true,
         }
     }
 
-    /// Takes land after an exception that can't be of it: the exception ends, and the land is of the same section.
+    /// Takes land after an exception that can't be of it: the exception ends, and the land is of
+    /// the same section.
     fn end_exception(&self, placed: &mut Placed, found: &mut GroupsSoFar) {
         let Some(group) = found.group else {
             return;
@@ -144,7 +145,7 @@ impl<'a> Plan<'a> {
     /// Takes what begins an exception, or continues it.
     fn take_exception(&self, placed: &mut Placed, group: Group, found: &mut GroupsSoFar) {
         placed.role = Role::Kept(found.count);
-        let is_word = placed.phrase.names == Names::Except;
+        let is_word = placed.phrase.kind == PhraseKind::Except;
         if is_word {
             found.is_unsure = found.is_unsure
                 || group.is_excepting
@@ -199,8 +200,9 @@ impl<'a> Plan<'a> {
                 && !pieces.follows(first, b";"))
     }
 
-    /// Whether an exception is set apart from the land before it, as its section is from other land: it may be
-    /// from the land of each section. After a comma it isn't, if a semicolon or a line end is before the section.
+    /// Whether an exception is set apart from the land before it, as its section is from other
+    /// land: it may be from the land of each section. After a comma it isn't, if a semicolon or a
+    /// line end is before the section.
     fn is_set_apart(&self, exception: Phrase, section: Phrase) -> bool {
         let pieces = &self.draft.pieces;
         let first = exception.first;
@@ -213,8 +215,8 @@ impl<'a> Plan<'a> {
             || pieces.has_before(first, b'\n')
     }
 
-    /// Whether the label of a tract, a township, or both, begin a line or follow a semicolon, and end before an index, as in
-    /// `Tract 2: T2N R3W, Section 17`.
+    /// Whether the label of a tract, a township, or both, begin a line or follow a semicolon, and
+    /// end before an index, as in `Tract 2: T2N R3W, Section 17`.
     fn is_after_label_of_item(&self, index: usize) -> bool {
         let pieces = &self.draft.pieces;
         for count in 2..ITEM_MOST {
@@ -245,7 +247,7 @@ impl<'a> Plan<'a> {
     fn are_set_apart(&self, list: &[Placed]) -> bool {
         let mut end: Option<usize> = None;
         for placed in list {
-            let is_section = placed.phrase.names == Names::Sections;
+            let is_section = placed.phrase.kind == PhraseKind::Sections;
             // Several sections that share parts are left out where they are.
             let is_shared = is_section && self.count_of(placed.phrase) > 1;
             if placed.role == Role::LeftOut && !is_shared {
@@ -258,8 +260,8 @@ impl<'a> Plan<'a> {
                     }
                 }
             }
-            end = match placed.phrase.names {
-                Names::Heading => None,
+            end = match placed.phrase.kind {
+                PhraseKind::Heading => None,
                 _ => Some(placed.phrase.end),
             };
         }
@@ -272,10 +274,10 @@ impl<'a> Plan<'a> {
         let mut joined: Option<usize> = None;
         for placed in list {
             let phrase = placed.phrase;
-            match phrase.names {
-                Names::Heading | Names::Nothing(LeftOut::Meridian) => {}
-                Names::All => joined = None,
-                Names::Sections if joined.is_none() || joined == Some(phrase.first) => {
+            match phrase.kind {
+                PhraseKind::Heading | PhraseKind::Nothing(LeftOut::Meridian) => {}
+                PhraseKind::All => joined = None,
+                PhraseKind::Sections if joined.is_none() || joined == Some(phrase.first) => {
                     let is_and = matches!(pieces.kind(phrase.end), Kind::And)
                         || pieces.is(phrase.end, b"&");
                     joined = Some(plus(phrase.end, usize::from(is_and)));
@@ -288,7 +290,7 @@ impl<'a> Plan<'a> {
 }
 
 /// Whether a phrase begins the exception of a group, or continues it.
-fn is_of_exception(group: &Group, names: Names) -> bool {
-    let is_land = matches!(names, Names::Part | Names::Lots | Names::All);
-    names == Names::Except || (group.is_excepting && is_land)
+fn is_of_exception(group: &Group, kind: PhraseKind) -> bool {
+    let is_land = matches!(kind, PhraseKind::Part | PhraseKind::Lots | PhraseKind::All);
+    kind == PhraseKind::Except || (group.is_excepting && is_land)
 }

@@ -4,7 +4,7 @@ use crate::arranged::plan::Plan;
 use std::alloc::{AllocError, Global};
 use std::mem;
 use twp_asides::plus;
-use twp_draft::{IndexRange, Names, Phrase, Placed, Role};
+use twp_draft::{IndexRange, Phrase, PhraseKind, Placed, Role};
 use twp_grammar::Kind;
 
 impl<'a> Plan<'a> {
@@ -24,7 +24,10 @@ impl<'a> Plan<'a> {
             self.doubt_part_after_lots(list.as_slice());
         }
         match first {
-            Some(Names::Sections) => self.place_land_after(&mut list),
+            Some(PhraseKind::Sections) if self.are_whole_before_land(list.as_slice()) => {
+                self.place_land_before(&mut list)
+            }
+            Some(PhraseKind::Sections) => self.place_land_after(&mut list),
             Some(_) => self.place_land_before(&mut list),
             None => self.draft.doubt(),
         }
@@ -35,11 +38,11 @@ impl<'a> Plan<'a> {
     }
 
     /// What the first phrase of a section and its land names.
-    fn first_of_land(&self) -> Option<Names> {
+    fn first_of_land(&self) -> Option<PhraseKind> {
         for placed in &self.draft.phrases {
             let phrase = &placed.phrase;
-            if !matches!(phrase.names, Names::Nothing(_) | Names::Heading) {
-                return Some(phrase.names);
+            if !matches!(phrase.kind, PhraseKind::Nothing(_) | PhraseKind::Heading) {
+                return Some(phrase.kind);
             }
         }
         None
@@ -51,7 +54,7 @@ impl<'a> Plan<'a> {
         let mut is_first = true;
         let mut differ = false;
         for placed in list.iter_mut() {
-            if placed.phrase.names == Names::Heading {
+            if placed.phrase.kind == PhraseKind::Heading {
                 match first {
                     None => first = Some(placed.phrase),
                     Some(other) => differ = differ || !self.are_same_headings(other, placed.phrase),
@@ -60,7 +63,7 @@ impl<'a> Plan<'a> {
                     placed.role = Role::LeftOut;
                 }
             }
-            if !matches!(placed.phrase.names, Names::Nothing(_)) {
+            if !matches!(placed.phrase.kind, PhraseKind::Nothing(_)) {
                 is_first = false;
             }
         }

@@ -1,7 +1,8 @@
 //! Land before its sections, as in `NE of Sec. 14`.
 
 use crate::arranged::plan::Plan;
-use twp_draft::{Form, IndexRange, Names, Phrase, Placed, Role};
+use twp_asides::plus;
+use twp_draft::{Form, IndexRange, Phrase, PhraseKind, Placed, Role};
 use twp_grammar::Kind;
 
 /// What was found before a phrase.
@@ -50,6 +51,18 @@ impl LandSoFar {
             is_ended: false,
             is_unsure: false,
         }
+    }
+
+    /// Whether neither land nor a section was found.
+    fn is_first(&self) -> bool {
+        self.first.is_none() && self.section.is_none()
+    }
+
+    /// Takes sections that are whole, before any land.
+    fn take_whole(&mut self, phrase: Phrase) {
+        self.section = Some(phrase);
+        self.last = phrase.first;
+        self.group = self.group.saturating_add(1);
     }
 
     /// Whether what was found isn't sure when nothing follows.
@@ -110,13 +123,17 @@ impl<'a> Plan<'a> {
             return;
         };
         let phrase = placed.phrase;
-        match phrase.names {
-            Names::Nothing(_) | Names::Heading => {}
-            Names::Sections => {
+        match phrase.kind {
+            PhraseKind::Nothing(_) | PhraseKind::Heading => {}
+            PhraseKind::Sections if found.is_first() => {
+                placed.role = Role::Kept(found.group);
+                found.take_whole(phrase);
+            }
+            PhraseKind::Sections => {
                 placed.role = Role::LeftOut;
                 self.take_section_after_land(list, phrase, found);
             }
-            Names::Except => placed.role = found.take_except(),
+            PhraseKind::Except => placed.role = found.take_except(),
             _ => {
                 if found.is_excepting && self.is_of_other_section(list.as_slice(), index, found) {
                     found.end_exception();
@@ -138,8 +155,9 @@ impl<'a> Plan<'a> {
         self.take_land(placed.phrase, index, found);
     }
 
-    /// Whether the land at an index isn't excepted with the land before it, since it is of another section,
-    /// which follows it with `of`, as in `All of Section 20, except the SESE thereof, and the W/2 of Section 21`.
+    /// Whether the land at an index isn't excepted with the land before it, since it is of another
+    /// section, which follows it with `of`, as in
+    /// `All of Section 20, except the SESE thereof, and the W/2 of Section 21`.
     fn is_of_other_section(&self, list: &[Placed], index: usize, found: &LandSoFar) -> bool {
         let Some(before) = index.checked_sub(1) else {
             return false;
@@ -170,13 +188,13 @@ impl<'a> Plan<'a> {
     fn is_before_other_section(&self, list: &[Placed], index: usize, found: &LandSoFar) -> bool {
         for placed in list.get(index..).unwrap_or(&[]) {
             let phrase = placed.phrase;
-            match phrase.names {
-                Names::Sections => {
+            match phrase.kind {
+                PhraseKind::Sections => {
                     return self.count_of(phrase) == 1
                         && self.draft.pieces.follows(phrase.first, b"of")
                         && !self.is_again(found.section, phrase);
                 }
-                Names::Part | Names::Lots | Names::All => {}
+                PhraseKind::Part | PhraseKind::Lots | PhraseKind::All => {}
                 _ => return false,
             }
         }
@@ -233,11 +251,11 @@ impl<'a> Plan<'a> {
             return false;
         }
         let first = found.first.and_then(|index| list.get(index));
-        let names = first.map(|land| land.phrase.names);
-        let is_all = found.lands == 1 && names == Some(Names::All);
+        let kind = first.map(|land| land.phrase.kind);
+        let is_all = found.lands == 1 && kind == Some(PhraseKind::All);
         let is_each = found.lands == 1
             && !found.is_excepting
-            && names == Some(Names::Part)
+            && kind == Some(PhraseKind::Part)
             && phrase.form == Form::Plural;
         !(is_all || is_each) || self.has_range(phrase)
     }
@@ -261,9 +279,11 @@ impl<'a> Plan<'a> {
         found.lands = found.lands.saturating_add(1);
     }
 
-    /// Whether a section has no word for it.
+    /// Whether a section has no word for it, and no township after it.
     fn is_bare_number(&self, section: Phrase) -> bool {
-        matches!(self.draft.pieces.kind(section.first), Kind::Number(_))
+        let pieces = &self.draft.pieces;
+        let next = plus(section.end, usize::from(pieces.is_dash(section.end)));
+        matches!(pieces.kind(section.first), Kind::Number(_)) && !pieces.begins_tier(next)
     }
 
     /// Whether a phrase names the section that was named before, and no other.

@@ -3,7 +3,7 @@
 
 use crate::arranged::plan::Plan;
 use twp_asides::plus;
-use twp_draft::{LeftOut, Names, Phrase};
+use twp_draft::{LeftOut, Phrase, PhraseKind};
 use twp_grammar::Kind;
 
 /// The most lots of a section.
@@ -34,13 +34,15 @@ impl<'a> Plan<'a> {
 
     /// Whether two phrases that follow each other aren't sure.
     fn are_unsure_neighbors(&self, one: &Phrase, other: &Phrase) -> bool {
-        match (one.names, other.names) {
-            (Names::Part, Names::Nothing(aside)) => self.may_be_of_name(one, other, aside),
-            (Names::Nothing(aside), Names::Part) => self.may_be_state(one, other, aside),
-            (Names::Sections | Names::Lots, Names::Nothing(LeftOut::Meridian)) => {
+        match (one.kind, other.kind) {
+            (PhraseKind::Part, PhraseKind::Nothing(aside)) => self.may_be_of_name(
+                one, other, aside,
+            ),
+            (PhraseKind::Nothing(aside), PhraseKind::Part) => self.may_be_state(one, other, aside),
+            (PhraseKind::Sections | PhraseKind::Lots, PhraseKind::Nothing(LeftOut::Meridian)) => {
                 one.end == other.first && self.is_bare_word_of_meridian(other.first)
             }
-            (Names::Lots, Names::Sections) => self.may_be_lot(one, other),
+            (PhraseKind::Lots, PhraseKind::Sections) => self.may_be_lot(one, other),
             _ => false,
         }
     }
@@ -133,8 +135,8 @@ impl<'a> Plan<'a> {
 
     /// The number that a meridian is known by, as that of a register, or of the 6th Principal Meridian.
     fn number_of_meridian(&self, phrase: &Phrase) -> Option<u16> {
-        match phrase.names {
-            Names::Nothing(LeftOut::Meridian) => self.draft.pieces.number(phrase.first),
+        match phrase.kind {
+            PhraseKind::Nothing(LeftOut::Meridian) => self.draft.pieces.number(phrase.first),
             _ => None,
         }
     }

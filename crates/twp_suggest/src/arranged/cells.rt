@@ -2,7 +2,7 @@
 
 use crate::arranged::plan::Plan;
 use twp_asides::plus;
-use twp_draft::{Names, Phrase, Placed};
+use twp_draft::{Phrase, PhraseKind, Placed};
 use twp_grammar::Kind;
 
 impl<'a> Plan<'a> {
@@ -49,8 +49,9 @@ impl<'a> Plan<'a> {
         self.draft.pieces.is(index, b"|") || self.draft.pieces.is(index, b"\"")
     }
 
-    /// Whether neither of two lands in cells of their own may be a part of the other: each is of lots, or has two
-    /// steps or more; or the first is of lots, and the second in the cell for aliquot parts.
+    /// Whether neither of two lands in cells of their own may be a part of the other: each is of
+    /// lots, or has two steps or more; or the first is of lots, and the second in the cell for
+    /// aliquot parts.
     pub(crate) fn are_whole_cells(
         &self,
         before: &Phrase,
@@ -66,15 +67,15 @@ impl<'a> Plan<'a> {
             _ => false,
         };
         (is_whole_cell(before) && is_whole_cell(after))
-            || (before.names == Names::Lots && after.names == Names::Part && is_labelled)
+            || (before.kind == PhraseKind::Lots && after.kind == PhraseKind::Part && is_labelled)
     }
 }
 
 /// Whether land in a cell is of lots, or a part of two steps or more.
 fn is_whole_cell(land: &Phrase) -> bool {
-    match land.names {
-        Names::Lots => true,
-        Names::Part => land.steps.end > plus(land.steps.first, 1),
+    match land.kind {
+        PhraseKind::Lots => true,
+        PhraseKind::Part => land.steps.end > plus(land.steps.first, 1),
         _ => false,
     }
 }

@@ -2,7 +2,7 @@
 
 use crate::arranged::plan::Plan;
 use twp_asides::plus;
-use twp_draft::{Names, Phrase};
+use twp_draft::{Phrase, PhraseKind};
 use twp_grammar::Kind;
 
 impl<'a> Plan<'a> {
@@ -20,7 +20,7 @@ impl<'a> Plan<'a> {
             if is_list && self.is_bare_corner(*corner) && self.begins_with_fraction(*part) {
                 let goes_on = match phrases.get(plus(index, 2)) {
                     Some(more) => {
-                        more.phrase.names == Names::Part && more.phrase.first == part.end
+                        more.phrase.kind == PhraseKind::Part && more.phrase.first == part.end
                     }
                     None => false,
                 };
@@ -34,7 +34,7 @@ impl<'a> Plan<'a> {
 
     /// Whether a phrase is a corner without its fraction.
     fn is_bare_corner(&self, phrase: Phrase) -> bool {
-        phrase.names == Names::Part
+        phrase.kind == PhraseKind::Part
             && self.draft.steps_of(phrase).len() == 1
             && matches!(
                 self.draft.pieces.kind_before(phrase.end),
@@ -46,7 +46,7 @@ impl<'a> Plan<'a> {
     fn begins_with_fraction(&self, phrase: Phrase) -> bool {
         let pieces = &self.draft.pieces;
         let first = plus(phrase.first, usize::from(pieces.is(phrase.first, b"the")));
-        phrase.names == Names::Part
+        phrase.kind == PhraseKind::Part
             && matches!(pieces.kind(first), Kind::Corner(_))
             && matches!(
                 pieces.kind(plus(first, 1)),

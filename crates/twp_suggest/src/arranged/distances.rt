@@ -3,7 +3,7 @@
 
 use crate::arranged::plan::Plan;
 use twp_asides::plus;
-use twp_draft::{Names, Phrase};
+use twp_draft::{Phrase, PhraseKind};
 use twp_grammar::Kind;
 
 /// How far apart two phrases are, by what is between them.
@@ -147,11 +147,13 @@ impl<'a> Plan<'a> {
             let Some(phrase) = self.draft.phrases.get(index).map(|placed| placed.phrase) else {
                 break;
             };
-            match phrase.names {
-                Names::Nothing(_) | Names::Heading => {}
-                Names::Sections => self.pass_section(phrase, index, &mut found),
-                Names::Except => self.pass_exception(phrase, index, &mut found),
-                Names::Part | Names::Lots | Names::All => self.pass_land(phrase, index, &mut found),
+            match phrase.kind {
+                PhraseKind::Nothing(_) | PhraseKind::Heading => {}
+                PhraseKind::Sections => self.pass_section(phrase, index, &mut found),
+                PhraseKind::Except => self.pass_exception(phrase, index, &mut found),
+                PhraseKind::Part | PhraseKind::Lots | PhraseKind::All => self.pass_land(
+                    phrase, index, &mut found,
+                ),
             }
         }
         found.is_loose || (found.has_other && (found.is_unsure || found.is_awaited))
@@ -162,7 +164,7 @@ impl<'a> Plan<'a> {
         match found.last {
             Some(last) => {
                 let distance = self.distance(last, found.place, land, index);
-                if last.names != Names::Sections {
+                if last.kind != PhraseKind::Sections {
                     found.take_within(distance);
                 } else if found.is_land_first {
                     found.take_far(distance);
@@ -181,7 +183,7 @@ impl<'a> Plan<'a> {
     /// sections is.
     fn pass_exception(&self, exception: Phrase, index: usize, found: &mut NearestSoFar) {
         if let (true, Some(last)) = (found.is_land_first, found.last) {
-            if last.names == Names::Sections {
+            if last.kind == PhraseKind::Sections {
                 let distance = self.distance(last, found.place, exception, index);
                 let is_apart = match found.far {
                     Some(far) => {
@@ -219,7 +221,7 @@ impl<'a> Plan<'a> {
         let Some(last) = found.last else {
             return;
         };
-        if last.names == Names::Sections {
+        if last.kind == PhraseKind::Sections {
             return;
         }
         let distance = self.distance(last, found.place, section, index);
@@ -237,8 +239,8 @@ impl<'a> Plan<'a> {
         found.await_land(far);
     }
 
-    /// Whether a section and the one before it, each with its word, begin a line: what is before the line is of the
-    /// section before.
+    /// Whether a section and the one before it, each with its word, begin a line: what is before
+    /// the line is of the section before.
     fn are_in_lines(&self, before: Option<Phrase>, section: Phrase) -> bool {
         let pieces = &self.draft.pieces;
         match before {
@@ -253,14 +255,14 @@ impl<'a> Plan<'a> {
         }
     }
 
-    /// Whether a row begins with a township between two phrases, as in a register: what is before it is of the row
-    /// before.
+    /// Whether a row begins with a township between two phrases, as in a register: what is before
+    /// it is of the row before.
     fn begins_row_between(&self, first: usize, last: usize) -> bool {
         let mut has_line = false;
         for placed in self.draft.phrases.get(plus(first, 1)..last).unwrap_or(&[]) {
             let phrase = &placed.phrase;
             has_line = has_line || self.draft.pieces.has_before(phrase.first, b'\n');
-            if has_line && phrase.names == Names::Heading {
+            if has_line && phrase.kind == PhraseKind::Heading {
                 return true;
             }
         }
@@ -270,7 +272,7 @@ impl<'a> Plan<'a> {
     /// How far apart two phrases are, with their indexes. Phrases between them, which are no land, aren't
     /// counted.
     fn distance(&self, one: Phrase, first: usize, other: Phrase, last: usize) -> Distance {
-        let is_after_section = one.names == Names::Sections;
+        let is_after_section = one.kind == PhraseKind::Sections;
         let mut rest = self.draft.phrases.get(plus(first, 1)..last).unwrap_or(&[]);
         let mut longest = self.break_before(other.first);
         let mut is_bound = false;
@@ -318,9 +320,10 @@ impl<'a> Plan<'a> {
             Kind::Comma | Kind::And => Distance::Comma,
             Kind::BadByte if !(pieces.is(index, b"\"") || pieces.is(index, b")")) =>
                 Distance::Comma,
-            Kind::Other if pieces.is(index, b"also") || pieces.is(index, b"together") => {
-                Distance::Comma
-            }
+            Kind::Other
+                if pieces.is(index, b"also")
+                    || pieces.is(index, b"plus")
+                    || pieces.is(index, b"together") => Distance::Comma,
             _ => Distance::Space,
         }
     }

@@ -2,7 +2,7 @@
 
 use crate::arranged::plan::Plan;
 use twp_asides::plus;
-use twp_draft::{Form, Names, Phrase, Placed};
+use twp_draft::{Form, Phrase, PhraseKind, Placed};
 use twp_grammar::Kind;
 
 /// The most phrases among which a part is looked for that is excepted as a whole.
@@ -21,11 +21,11 @@ impl<'a> Plan<'a> {
             if phrase.form == Form::WithOf && goes_on(list, index) {
                 self.draft.doubt();
             }
-            match phrase.names {
-                Names::Sections => count = 0,
-                Names::Nothing(_) | Names::Heading => {}
-                Names::Except => is_first = true,
-                Names::Part if is_first && count > 1 && !goes_on(list, index) => {
+            match phrase.kind {
+                PhraseKind::Sections => count = 0,
+                PhraseKind::Nothing(_) | PhraseKind::Heading => {}
+                PhraseKind::Except => is_first = true,
+                PhraseKind::Part if is_first && count > 1 && !goes_on(list, index) => {
                     is_first = false;
                     if !self.may_hold(last, phrase) {
                         self.draft.doubt();
@@ -50,43 +50,44 @@ impl<'a> Plan<'a> {
             return false;
         };
         let phrase = placed.phrase;
-        phrase.names == Names::Part
-            && last.phrase.names == Names::Part
+        phrase.kind == PhraseKind::Part
+            && last.phrase.kind == PhraseKind::Part
             && !goes_on(list, index)
             && self.draft.pieces.is(last.phrase.end, b",")
             && phrase.first == plus(last.phrase.end, 1)
             && self.is_apart_from_whole(&list[..before], phrase)
     }
 
-    /// Whether an exception is among the last phrases, and the parts of its section before it, of which there are some,
-    /// have no land in common with a part.
+    /// Whether an exception is among the last phrases, and the parts of its section before it, of
+    /// which there are some, have no land in common with a part.
     fn is_apart_from_whole(&self, list: &[Placed], part: Phrase) -> bool {
         let mut is_excepted = true;
         let mut has_part = false;
         for placed in list.iter().rev().take(PHRASES_MOST) {
             let phrase = placed.phrase;
-            match phrase.names {
+            match phrase.kind {
                 // A comma before the exception sets it apart, with all that is listed after it.
-                Names::Except if is_excepted && !self.draft.pieces.follows(phrase.first, b",") => {
+                PhraseKind::Except
+                    if is_excepted && !self.draft.pieces.follows(phrase.first, b",") => {
                     is_excepted = false;
                 }
-                Names::Except => return false,
-                Names::Part if !is_excepted => {
+                PhraseKind::Except => return false,
+                PhraseKind::Part if !is_excepted => {
                     if self.draft.do_overlap(phrase, part) {
                         return false;
                     }
                     has_part = true;
                 }
-                Names::Lots | Names::All if !is_excepted => return false,
-                Names::Sections => return !is_excepted && has_part,
+                PhraseKind::Lots | PhraseKind::All if !is_excepted => return false,
+                PhraseKind::Sections => return !is_excepted && has_part,
                 _ => {}
             }
         }
         false
     }
 
-    /// Doubts a part after `and` and a list of lots that are excepted from a part, if that list has an `and` of its own,
-    /// as in `N/2 less Lots 1 & 2 and S/2NE/4`: the part may be kept.
+    /// Doubts a part after `and` and a list of lots that are excepted from a part, if that list has
+    /// an `and` of its own, as in `N/2 less Lots 1 & 2 and S/2NE/4`: the part may be kept.
     pub(crate) fn doubt_part_after_lots(&mut self, list: &[Placed]) {
         let mut is_excepting = false;
         let mut has_part = false;
@@ -97,17 +98,17 @@ impl<'a> Plan<'a> {
                 Some(end) => self.has_kind(end, phrase.first, Kind::And),
                 None => false,
             };
-            match phrase.names {
-                Names::Except => is_excepting = true,
-                Names::Sections => {
+            match phrase.kind {
+                PhraseKind::Except => is_excepting = true,
+                PhraseKind::Sections => {
                     is_excepting = false;
                     has_part = false;
                 }
-                Names::Part if is_excepting && is_joined && has_part => self.draft.doubt(),
-                Names::Part if !is_excepting => has_part = true,
+                PhraseKind::Part if is_excepting && is_joined && has_part => self.draft.doubt(),
+                PhraseKind::Part if !is_excepting => has_part = true,
                 _ => {}
             }
-            lots = if phrase.names == Names::Lots && self.lists_by_and(phrase) {
+            lots = if phrase.kind == PhraseKind::Lots && self.lists_by_and(phrase) {
                 Some(phrase.end)
             } else {
                 None
@@ -126,16 +127,17 @@ impl<'a> Plan<'a> {
         false
     }
 
-    /// Doubts an excepted part that includes a part from which it is excepted, as in `N/2 and SE/4, except
-    /// the N/2`: it may be a part of that. The land of each section is in a group.
+    /// Doubts an excepted part that includes a part from which it is excepted, as in
+    /// `N/2 and SE/4, except the N/2`: it may be a part of that. The land of each section is in a
+    /// group.
     pub(crate) fn doubt_whole_exceptions(&mut self, list: &[Placed]) {
         let mut is_excepting = false;
         for index in 0..list.len() {
             let placed = list[index];
-            match placed.phrase.names {
-                Names::Except => is_excepting = true,
-                Names::Sections => is_excepting = false,
-                Names::Part if is_excepting && !is_joined(list, index) => {
+            match placed.phrase.kind {
+                PhraseKind::Except => is_excepting = true,
+                PhraseKind::Sections => is_excepting = false,
+                PhraseKind::Part if is_excepting && !is_joined(list, index) => {
                     if self.does_hold_one(&list[..index], placed) {
                         self.draft.doubt();
                     }
@@ -149,11 +151,11 @@ impl<'a> Plan<'a> {
     fn does_hold_one(&self, list: &[Placed], excepted: Placed) -> bool {
         let mut is_excepted = true;
         for placed in list.iter().rev().take(PHRASES_MOST) {
-            let is_part = placed.phrase.names == Names::Part && placed.role == excepted.role;
+            let is_part = placed.phrase.kind == PhraseKind::Part && placed.role == excepted.role;
             if is_part && !is_excepted && self.draft.does_hold(excepted.phrase, placed.phrase) {
                 return true;
             }
-            is_excepted = is_excepted && placed.phrase.names != Names::Except;
+            is_excepted = is_excepted && placed.phrase.kind != PhraseKind::Except;
         }
         false
     }
@@ -172,7 +174,7 @@ impl<'a> Plan<'a> {
                 let is_of_half = whole.written.ends_with(b"2") && step.written.ends_with(b"4");
                 is_of_half && step.written.get(..2).unwrap_or(b"").contains(&letter)
             }
-            _ => last.names != Names::Part,
+            _ => last.kind != PhraseKind::Part,
         }
     }
 }
@@ -186,8 +188,8 @@ fn is_joined(list: &[Placed], index: usize) -> bool {
 fn goes_on(list: &[Placed], index: usize) -> bool {
     match (list.get(index), list.get(plus(index, 1))) {
         (Some(one), Some(other)) => {
-            one.phrase.names == Names::Part
-                && other.phrase.names == Names::Part
+            one.phrase.kind == PhraseKind::Part
+                && other.phrase.kind == PhraseKind::Part
                 && other.phrase.first == one.phrase.end
         }
         _ => false,

@@ -2,7 +2,7 @@
 
 use crate::arranged::plan::Plan;
 use twp_asides::plus;
-use twp_draft::{Form, LeftOut, Names, Phrase, Placed, PlacedStep, Role};
+use twp_draft::{Form, LeftOut, Phrase, PhraseKind, Placed, PlacedStep, Role};
 use twp_grammar::Kind;
 
 /// What has to be between two phrases.
@@ -66,18 +66,23 @@ impl<'a> Plan<'a> {
     ) -> bool {
         let pieces = &self.draft.pieces;
         let (before, after) = (&one.phrase, &other.phrase);
-        if before.names == Names::Heading {
+        if before.kind == PhraseKind::Heading {
             return false;
         }
-        if before.names == Names::Sections {
+        if before.kind == PhraseKind::Sections {
             // All of the section, and land of another, may be meant.
-            let is_land = matches!(after.names, Names::Part | Names::Lots | Names::All);
-            return is_land && self.has_and(before.end, after.first, left_out);
+            let is_land = matches!(
+                after.kind,
+                PhraseKind::Part | PhraseKind::Lots | PhraseKind::All
+            );
+            return is_land
+                && one.role == other.role
+                && self.has_and(before.end, after.first, left_out);
         }
         if one.role != other.role {
             return false;
         }
-        let are_parts = before.names == Names::Part && after.names == Names::Part;
+        let are_parts = before.kind == PhraseKind::Part && after.kind == PhraseKind::Part;
         if are_parts && is_list(joining) && self.may_share_last(before, after) {
             return true;
         }
@@ -87,12 +92,12 @@ impl<'a> Plan<'a> {
             ),
             // A part of two steps or more is no part of a lot.
             Joining::Nothing
-                if before.names == Names::Lots
-                    && after.names == Names::Part
+                if before.kind == PhraseKind::Lots
+                    && after.kind == PhraseKind::Part
                     && after.steps.end > plus(after.steps.first, 1) => false,
             // Nor is one in the cell for aliquot parts.
             Joining::Nothing
-                if before.names == Names::Lots
+                if before.kind == PhraseKind::Lots
                     && is_left_out_after(before, left_out, LeftOut::Label)
                     && pieces.end_of_column_label(before.end).is_some() => false,
             Joining::Nothing
@@ -101,11 +106,12 @@ impl<'a> Plan<'a> {
             }
             Joining::Nothing if are_parts && is_left_out_after(before, left_out, LeftOut::Label) =>
                 { !self.are_tracts(before) }
-            Joining::Nothing if before.names == Names::Lots && after.names == Names::Lots => false,
+            Joining::Nothing if before.kind == PhraseKind::Lots && after.kind == PhraseKind::Lots =>
+                false,
             Joining::Nothing => !has_section(left_out),
             Joining::Stop
-                if before.names == Names::Lots
-                    && after.names == Names::Part
+                if before.kind == PhraseKind::Lots
+                    && after.kind == PhraseKind::Part
                     && after.steps.end > plus(after.steps.first, 1) => !left_out.is_empty(),
             Joining::Stop => !(are_parts && left_out.is_empty()),
             Joining::Colon => !has_section(left_out),
@@ -145,8 +151,8 @@ impl<'a> Plan<'a> {
     }
 
     /// Whether the last steps of a part may be for the one before it too, as in
-    /// `E½ of NW¼ and W½ of NE¼ of SE¼`: it has more steps, an `of` before the last one, and the first ones of both
-    /// parts are apart.
+    /// `E½ of NW¼ and W½ of NE¼ of SE¼`: it has more steps, an `of` before the last one, and the
+    /// first ones of both parts are apart.
     fn may_share_last(&self, before: &Phrase, after: &Phrase) -> bool {
         let (first, second) = (self.draft.steps_of(*before), self.draft.steps_of(*after));
         after.form == Form::WithOf
@@ -171,6 +177,7 @@ impl<'a> Plan<'a> {
             let is_and = matches!(pieces.kind(index), Kind::And)
                 || pieces.is(index, b"&")
                 || pieces.is(index, b"also")
+                || pieces.is(index, b"plus")
                 || pieces.is(index, b"together");
             if index >= next && is_and {
                 return true;
@@ -224,13 +231,16 @@ impl<'a> Plan<'a> {
             if !(is_stop
                 || pieces.is(index, b"&")
                 || pieces.is(index, b"+")
+                || pieces.is(index, b"plus")
                 || pieces.is(index, b",")
                 || pieces.is(index, b";"))
             {
                 return true;
             }
         }
-        before.names == Names::Part && after.names == Names::Part && before.form != after.form
+        before.kind == PhraseKind::Part
+            && after.kind == PhraseKind::Part
+            && before.form != after.form
     }
 }
 
@@ -275,7 +285,7 @@ fn has_opposite(first: &[u8], second: &[u8], side: u8, other: u8) -> bool {
 fn is_left_out_after(before: &Phrase, left_out: &[Placed], aside: LeftOut) -> bool {
     match left_out {
         [placed] => {
-            placed.phrase.first == before.end && placed.phrase.names == Names::Nothing(aside)
+            placed.phrase.first == before.end && placed.phrase.kind == PhraseKind::Nothing(aside)
         }
         _ => false,
     }
@@ -284,7 +294,7 @@ fn is_left_out_after(before: &Phrase, left_out: &[Placed], aside: LeftOut) -> bo
 /// Whether a section is among phrases.
 pub fn has_section(list: &[Placed]) -> bool {
     for placed in list {
-        if placed.phrase.names == Names::Sections {
+        if placed.phrase.kind == PhraseKind::Sections {
             return true;
         }
     }
@@ -296,7 +306,7 @@ pub fn mark_between(before: Option<&Placed>, after: Option<&Placed>) -> Between 
     let (Some(before), Some(after)) = (before, after) else {
         return Between::Nothing;
     };
-    if before.phrase.names == Names::Heading || before.role == after.role {
+    if before.phrase.kind == PhraseKind::Heading || before.role == after.role {
         return Between::Comma;
     }
     Between::Semicolon
@@ -304,7 +314,9 @@ pub fn mark_between(before: Option<&Placed>, after: Option<&Placed>) -> Between 
 
 /// Whether two phrases are parts of one section.
 pub fn is_joint(one: &Placed, other: &Placed) -> bool {
-    one.phrase.names == Names::Part && other.phrase.names == Names::Part && one.role == other.role
+    one.phrase.kind == PhraseKind::Part
+        && other.phrase.kind == PhraseKind::Part
+        && one.role == other.role
 }
 
 /// Whether what joins two phrases is written so in a description.
@@ -320,11 +332,14 @@ pub fn is_written(
     if after.is_none() {
         return matches!(joining, Joining::Nothing | Joining::Stop);
     }
-    match (between, before.phrase.names) {
+    match (between, before.phrase.kind) {
         (Between::Nothing, _) => true,
         (Between::Semicolon, _) => matches!(joining, Joining::Semicolon | Joining::SemicolonAnd),
-        (Between::Comma, Names::Heading) => matches!(joining, Joining::Nothing | Joining::Comma),
-        (Between::Comma, Names::Sections) => {
+        (Between::Comma, PhraseKind::Heading) => matches!(
+            joining,
+            Joining::Nothing | Joining::Comma
+        ),
+        (Between::Comma, PhraseKind::Sections) => {
             matches!(joining, Joining::Nothing | Joining::Comma | Joining::Colon)
         }
         (Between::Comma, _) => matches!(joining, Joining::Comma | Joining::And | Joining::CommaAnd),

@@ -2,7 +2,7 @@
 
 use crate::arranged::plan::Plan;
 use twp_asides::{plus, value_of};
-use twp_draft::{IndexRange, LeftOut, Names};
+use twp_draft::{IndexRange, LeftOut, PhraseKind};
 use twp_grammar::Kind;
 
 impl<'a> Plan<'a> {
@@ -10,7 +10,7 @@ impl<'a> Plan<'a> {
     pub(crate) fn has_other_parcel(&self) -> bool {
         for placed in &self.draft.phrases {
             let phrase = &placed.phrase;
-            if phrase.names != Names::Nothing(LeftOut::Label) {
+            if phrase.kind != PhraseKind::Nothing(LeftOut::Label) {
                 continue;
             }
             for index in phrase.first..phrase.end {
@@ -46,8 +46,8 @@ impl<'a> Plan<'a> {
         let mut has_section = false;
         for placed in &self.draft.phrases {
             let phrase = &placed.phrase;
-            match phrase.names {
-                Names::Heading => {
+            match phrase.kind {
+                PhraseKind::Heading => {
                     let is_tier = self.tier_of(*phrase, 0).map(|tier| tier.0)
                         == pieces.number(index);
                     let is_range = self.tier_of(*phrase, 1).map(|tier| tier.0)
@@ -56,7 +56,7 @@ impl<'a> Plan<'a> {
                         return true;
                     }
                 }
-                Names::Sections => {
+                PhraseKind::Sections => {
                     has_section = true;
                     is_found = is_found || self.has_number(phrase.numbers, section);
                 }

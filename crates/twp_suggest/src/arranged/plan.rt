@@ -2,7 +2,7 @@
 
 use std::alloc::Global;
 use twp_asides::plus;
-use twp_draft::{Draft, LeftOut, Names, Phrase};
+use twp_draft::{Draft, LeftOut, Phrase, PhraseKind};
 
 /// The phrases of a text, which are arranged.
 #[derive(Drop)]
@@ -16,8 +16,8 @@ pub struct Plan<'a> {
     pub acreage: Option<u64>,
 }
 
-/// How many phrases of some kinds a text has. They are counted once, since most questions are about phrases that
-/// most texts don't have, or have only once.
+/// How many phrases of some kinds a text has. They are counted once, since most questions are about
+/// phrases that most texts don't have, or have only once.
 #[derive(Clone, Copy)]
 pub(crate) struct Counts {
     pub(crate) headings: usize,
@@ -52,18 +52,18 @@ impl Counts {
     /// Counts a phrase.
     #[inline(always)]
     fn add(&mut self, phrase: &Phrase) {
-        match phrase.names {
-            Names::Heading => self.headings = plus(self.headings, 1),
-            Names::Sections => {
+        match phrase.kind {
+            PhraseKind::Heading => self.headings = plus(self.headings, 1),
+            PhraseKind::Sections => {
                 let is_list = phrase.numbers.end > plus(phrase.numbers.first, 1);
                 self.sections = plus(self.sections, 1);
                 self.lists = plus(self.lists, usize::from(is_list));
             }
-            Names::Part => self.parts = plus(self.parts, 1),
-            Names::Lots => self.lots = plus(self.lots, 1),
-            Names::All => {}
-            Names::Except => self.exceptions = plus(self.exceptions, 1),
-            Names::Nothing(left_out) => {
+            PhraseKind::Part => self.parts = plus(self.parts, 1),
+            PhraseKind::Lots => self.lots = plus(self.lots, 1),
+            PhraseKind::All => {}
+            PhraseKind::Except => self.exceptions = plus(self.exceptions, 1),
+            PhraseKind::Nothing(left_out) => {
                 self.asides = plus(self.asides, 1);
                 self.labels = plus(self.labels, usize::from(matches!(left_out, LeftOut::Label)));
                 self.acreages = plus(

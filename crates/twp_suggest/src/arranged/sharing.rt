@@ -2,7 +2,7 @@
 
 use crate::arranged::plan::Plan;
 use twp_asides::plus;
-use twp_draft::{Names, Placed, Role};
+use twp_draft::{PhraseKind, Placed, Role};
 use twp_grammar::Kind;
 
 impl<'a> Plan<'a> {
@@ -17,8 +17,8 @@ impl<'a> Plan<'a> {
             let Some(placed) = list.get(index) else {
                 break;
             };
-            match placed.phrase.names {
-                Names::Sections => {
+            match placed.phrase.kind {
+                PhraseKind::Sections => {
                     let phrase = placed.phrase;
                     if parts > 0 && parts == sections {
                         self.draft.doubt();
@@ -31,9 +31,9 @@ impl<'a> Plan<'a> {
                             || self.draft.pieces.has_before(phrase.end, b'\t'));
                     shared = if is_shared { Some(index) } else { None };
                 }
-                Names::Nothing(_) | Names::Heading => {}
-                names => {
-                    if let (Some(sections), Names::Part) = (shared, names) {
+                PhraseKind::Nothing(_) | PhraseKind::Heading => {}
+                kind => {
+                    if let (Some(sections), PhraseKind::Part) = (shared, kind) {
                         share(list, sections, index);
                     }
                     parts = plus(parts, usize::from(shared.is_some() || parts > 0));

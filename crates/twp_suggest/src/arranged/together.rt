@@ -4,7 +4,7 @@ ghost use Rattle.std.specs.Prelude.{◌≤◌};
 
 use crate::arranged::plan::Plan;
 use twp_asides::{begins_terms, plus};
-use twp_draft::{Form, LeftOut, Names, Phrase};
+use twp_draft::{Form, LeftOut, Phrase, PhraseKind};
 use twp_grammar::Kind;
 
 impl<'a> Plan<'a> {
@@ -20,8 +20,9 @@ impl<'a> Plan<'a> {
         }
     }
 
-    /// Whether parts, or phrases beside each other, aren't sure together. A single part is beside no other, and
-    /// what is beside a phrase is doubted only where something is left out, and for lots before a section.
+    /// Whether parts, or phrases beside each other, aren't sure together. A single part is beside
+    /// no other, and what is beside a phrase is doubted only where something is left out, and for
+    /// lots before a section.
     fn are_unsure_together(&self) -> bool {
         let counts = self.counts;
         (counts.parts > 0 && self.has_part_of_part())
@@ -57,7 +58,8 @@ impl<'a> Plan<'a> {
         };
         let end = corner.phrase.end;
         let goes_on = match phrases.get(plus(index, 1)) {
-            Some(next) => next.phrase.first == other.phrase.end && next.phrase.names == Names::Part,
+            Some(next) => next.phrase.first == other.phrase.end
+                && next.phrase.kind == PhraseKind::Part,
             None => false,
         };
         let is_and = self.draft.pieces.is(end, b"&") || self.draft.pieces.is(end, b"and");
@@ -72,7 +74,7 @@ impl<'a> Plan<'a> {
 
     /// Whether a phrase is a part of one step, whose fraction ends with a digit.
     fn is_single_step(&self, phrase: Phrase, digit: &[u8]) -> bool {
-        phrase.names == Names::Part
+        phrase.kind == PhraseKind::Part
             && matches!(self.draft.steps_of(phrase), [step] if step.written.ends_with(digit))
     }
 
@@ -84,12 +86,14 @@ impl<'a> Plan<'a> {
         self.has_land_missing() || self.has_other_parcel() || self.has_other_tract()
     }
 
-    /// Whether it isn't sure which land the sections have. A single section has all of it, unless an exception
-    /// may be of other land.
+    /// Whether it isn't sure which land the sections have. A single section has all of it, unless
+    /// an exception may be of other land.
     fn has_unsure_section(&self) -> bool {
         let counts = self.counts;
         (counts.sections > 1 && (self.has_loose_section() || self.has_section_aside()))
-            || ((counts.sections > 1 || counts.exceptions > 0) && self.has_closer_land())
+            || ((counts.sections > 1 || counts.exceptions > 0)
+                && self.has_closer_land()
+                && !self.are_whole_before_land(self.draft.phrases.as_slice()))
     }
 
     /// Whether some land may be missing. A word that isn't known may be what was meant by it: with remarks,
@@ -103,23 +107,23 @@ impl<'a> Plan<'a> {
         let mut is_labelled = false;
         for placed in &self.draft.phrases {
             let phrase = &placed.phrase;
-            match phrase.names {
-                Names::Sections => {
+            match phrase.kind {
+                PhraseKind::Sections => {
                     sections = plus(sections, 1);
                     is_land = false;
                     is_labelled = false;
                 }
-                Names::Part | Names::Lots | Names::All => {
+                PhraseKind::Part | PhraseKind::Lots | PhraseKind::All => {
                     lands = plus(lands, usize::from(!is_land));
                     is_land = true;
                     is_labelled = false;
                 }
                 // What is excepted is no further land, but its section has some.
-                Names::Except => {
+                PhraseKind::Except => {
                     lands = plus(lands, usize::from(lands < sections));
                     is_land = true;
                 }
-                Names::Nothing(LeftOut::Label) => {
+                PhraseKind::Nothing(LeftOut::Label) => {
                     let is_label = pieces.is_label_of_tract(phrase.first);
                     if is_label && is_labelled {
                         return true;
@@ -143,8 +147,8 @@ impl<'a> Plan<'a> {
         let mut is_before = false;
         for placed in &self.draft.phrases {
             let phrase = &placed.phrase;
-            match phrase.names {
-                Names::Sections => {
+            match phrase.kind {
+                PhraseKind::Sections => {
                     if self.is_list_cut(phrase) || self.is_place_empty(section) {
                         return true;
                     }
@@ -152,11 +156,11 @@ impl<'a> Plan<'a> {
                     section = if is_before { Some(phrase) } else { None };
                     is_first = false;
                 }
-                Names::Part | Names::Lots | Names::All | Names::Except => {
+                PhraseKind::Part | PhraseKind::Lots | PhraseKind::All | PhraseKind::Except => {
                     section = None;
                     is_first = false;
                 }
-                Names::Nothing(LeftOut::Acreage) => {
+                PhraseKind::Nothing(LeftOut::Acreage) => {
                     if self.is_before_gap(section) {
                         return true;
                     }
@@ -206,15 +210,15 @@ impl<'a> Plan<'a> {
         let mut has_word = false;
         let mut has_loose = false;
         // The last section or land, and whether that is such a number.
-        let mut before: Option<Names> = None;
+        let mut before: Option<PhraseKind> = None;
         let mut is_loose = false;
         // Whether a township was next to such a number, and another one followed it.
         let mut is_beside = false;
         let mut is_twice = false;
         for placed in &self.draft.phrases {
             let phrase = &placed.phrase;
-            match phrase.names {
-                Names::Sections => {
+            match phrase.kind {
+                PhraseKind::Sections => {
                     let is_bare = matches!(self.draft.pieces.kind(phrase.first), Kind::Number(_));
                     has_word = has_word || !is_bare;
                     has_loose = has_loose || is_loose;
@@ -224,15 +228,15 @@ impl<'a> Plan<'a> {
                     is_loose = is_bare && !is_land(before);
                     is_twice = is_loose && is_beside;
                     is_beside = false;
-                    before = Some(phrase.names);
+                    before = Some(phrase.kind);
                 }
-                Names::Part | Names::Lots | Names::All => {
+                PhraseKind::Part | PhraseKind::Lots | PhraseKind::All => {
                     is_loose = false;
                     is_twice = false;
                     is_beside = false;
-                    before = Some(phrase.names);
+                    before = Some(phrase.kind);
                 }
-                Names::Heading => {
+                PhraseKind::Heading => {
                     is_beside = is_loose && !self.is_row(phrase);
                     is_twice = false;
                 }
@@ -256,7 +260,7 @@ impl<'a> Plan<'a> {
         let mut before: Option<&Phrase> = None;
         for placed in &self.draft.phrases {
             let phrase = &placed.phrase;
-            if phrase.names != Names::Part {
+            if phrase.kind != PhraseKind::Part {
                 continue;
             }
             // Within a part, `said` is after an `of`.
@@ -296,8 +300,8 @@ impl<'a> Plan<'a> {
         let mut colon: Option<usize> = None;
         for placed in &self.draft.phrases {
             let phrase = &placed.phrase;
-            match phrase.names {
-                Names::Sections => {
+            match phrase.kind {
+                PhraseKind::Sections => {
                     sections = plus(sections, 1);
                     is_aside = is_aside
                         || pieces.follows(phrase.first, b"(")
@@ -308,7 +312,7 @@ impl<'a> Plan<'a> {
                         None
                     };
                 }
-                Names::Part | Names::Lots | Names::All => {
+                PhraseKind::Part | PhraseKind::Lots | PhraseKind::All => {
                     is_land_first = is_land_first || sections == 0;
                     is_aside = is_aside || (is_land_first && colon == Some(phrase.first));
                 }
@@ -326,15 +330,15 @@ impl<'a> Plan<'a> {
         let mut is_other = false;
         for placed in &self.draft.phrases {
             let phrase = &placed.phrase;
-            match phrase.names {
-                Names::Sections => is_other = false,
-                Names::Part | Names::Lots | Names::All => {
+            match phrase.kind {
+                PhraseKind::Sections => is_other = false,
+                PhraseKind::Part | PhraseKind::Lots | PhraseKind::All => {
                     if is_other {
                         return true;
                     }
                     is_first = is_first || !has_label;
                 }
-                Names::Nothing(LeftOut::Label)
+                PhraseKind::Nothing(LeftOut::Label)
                     if self.draft.pieces.is_label_of_tract(phrase.first) => {
                     has_label = true;
                     is_other = is_first;
@@ -347,6 +351,9 @@ impl<'a> Plan<'a> {
 }
 
 /// Whether a phrase names land.
-fn is_land(names: Option<Names>) -> bool {
-    matches!(names, Some(Names::Part | Names::Lots | Names::All))
+fn is_land(kind: Option<PhraseKind>) -> bool {
+    matches!(
+        kind,
+        Some(PhraseKind::Part | PhraseKind::Lots | PhraseKind::All)
+    )
 }

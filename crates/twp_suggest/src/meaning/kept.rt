@@ -1,9 +1,11 @@
-//! What a changed text keeps, and what it takes away, if it excepts land: its first exception, and its divisions.
+//! What a changed text keeps, and what it takes away, if it excepts land: its first exception, and
+//! its divisions.
 ghost use Rattle.std.specs.Prelude.{◌≡◌, ◌≢◌, ◌≤◌, ◌<◌, ◌++◌, ◌∷◌, [], ℕ, IfOk, IfSome, MatchBool, MatchOption, OnOk};
 ghost use Rattle.std.specs.Prelude.{drop, length, slice_index, take};
-ghost use Rattle.twp_suggest.specs.Excepting.{HasNoExceptBefore, HasNoSemicolon, IsDivided, IsSplit, alone, blanks};
+ghost use Rattle.twp_suggest.specs.Excepting.{HasNoExceptBefore, HasNoSemicolon, IsDivided};
+ghost use Rattle.twp_suggest.specs.Excepting.{AreAroundExcept, alone, blanks};
 ghost use Rattle.twp_suggest.specs.Excepting.{except, kept, semicolon, taken, without};
-ghost use Rattle.twp_suggest.specs.steps.ExceptingSteps.{IsAdded};
+ghost use Rattle.twp_suggest.specs.steps.ExceptingSteps.{IsDivisionAdded};
 
 use std::alloc::{AllocError, Global};
 
@@ -31,8 +33,8 @@ struct FirstDivision<'a> {
     more: Option<&'a [u8]>,
 }
 
-/// What the divisions of a text keep: their land, and blanks instead of each exception. And what they take away:
-/// blanks instead of all but the exceptions, and a semicolon between two of them.
+/// What the divisions of a text keep: their land, and blanks instead of each exception. And what
+/// they take away: blanks instead of all but the exceptions, and a semicolon between two of them.
 pub(crate) fn divide(alloc: Global, made: &[u8]) -> Result<Divided, AllocError>
     ensures { IfOk result (λ it. IsDivided made.now it.whole.items it.excepted.items) }
 {
@@ -72,8 +74,8 @@ fn first_division(text: &[u8]) -> FirstDivision<'_>
     }
 }
 
-/// Adds a division to what is kept and to what is taken away, in which a mark is before an exception. Returns the
-/// mark before the next one.
+/// Adds a division to what is kept and to what is taken away, in which a mark is before an
+/// exception. Returns the mark before the next one.
 fn add_division(
     whole: &mut Vec<u8>,
     excepted: &mut Vec<u8>,
@@ -81,7 +83,7 @@ fn add_division(
     mark: u8,
 ) -> Result<u8, AllocError>
     requires { HasNoSemicolon text.now }
-    ensures { IfOk result (λ after. IsAdded text.now mark after whole.old.items whole.new.items
+    ensures { IfOk result (λ after. IsDivisionAdded text.now mark after whole.old.items whole.new.items
         excepted.old.items excepted.new.items) }
 {
     match around_except(text) {
@@ -177,7 +179,7 @@ fn before_semicolon(text: &[u8]) -> usize
 /// The texts before the first `except` and after it.
 pub(crate) fn around_except(text: &[u8]) -> Option<Excepting<'_>>
     ensures { MatchOption result (HasNoExceptBefore text.now (length text.now))
-        (λ parts. IsSplit text.now parts.whole.now parts.excepted.now) }
+        (λ parts. AreAroundExcept text.now parts.whole.now parts.excepted.now) }
 {
     for at in 0..text.len() {
         if let Some(parts) = split_at_except(text, at) {

@@ -8,23 +8,22 @@ ghost use Rattle.twp_grammar.specs.ItemPlaces.{item_of, item_places, land_of, pa
 ghost use Rattle.twp_suggest.specs.Descriptions.{AreNamed};
 ghost use Rattle.twp_resolve.specs.steps.ResolvingSteps.{sections_from, lots_from, AreAdded, number_of_section};
 
+use crate::meaning::no_reading::NoReading;
 use crate::meaning::on_plat::read;
-use crate::meaning::unread::Unread;
 use std::alloc::{AllocError, Global};
 use twp_diagnose::holds_whole_lots;
-use twp_grammar::{Item, Numeral, Steps};
+use twp_grammar::{Item, Numeral, Steps, chain_block};
 use twp_grid::{Block, Section};
 use twp_land::{Land, Lanes, Lotting, PlaceSet};
 use twp_read::Description;
-use twp_resolve::chain_block;
 
 /// Items name what no township has, or the same land twice.
 #[derive(Clone, Copy, PartialEq, Eq)]
 struct Unnamed;
 
-/// Whether a text names land of a plat with these lots, also by aliquot parts that include lots, which `land` is
-/// then. It is filled in place, as in `find_land`. It names none if it names what the plat doesn't have, land
-/// twice, or a part of a lot.
+/// Whether a text names land of a plat with these lots, also by aliquot parts that include lots,
+/// which `land` is then. It is filled in place, as in `find_land`. It names none if it names what
+/// the plat doesn't have, land twice, or a part of a lot.
 pub fn find_named_land<P: Lotting>(
     alloc: Global,
     text: &[u8],
@@ -133,14 +132,15 @@ fn has_none_off_plat<L: Land, P: Lotting>(land: &L, section: Section, lots: &P) 
     true
 }
 
-/// Why a description isn't read whose land isn't on the plat: it names some land twice, or a part of a lot.
+/// Why a description whose land isn't on the plat is no reading: it names some land twice, or a part of a
+/// lot.
 #[inline(never)]
-pub(crate) fn why_unread<P: Lotting>(description: &Description, lots: &P) -> Unread {
+pub(crate) fn why_no_reading<P: Lotting>(description: &Description, lots: &P) -> NoReading {
     let mut land = Lanes::empty();
     if find_items(description, &mut land, lots) {
-        return Unread::Refused;
+        return NoReading::Refused;
     }
-    Unread::Unfit
+    NoReading::Unfit
 }
 
 /// Whether the items of a description name land that a township has, and none of it twice; `land` is then all

@@ -5,9 +5,9 @@ ghost use Rattle.twp_grid.specs.Lands.{lotting};
 ghost use Rattle.twp_grid.specs.Townships.{Designation};
 ghost use Rattle.twp_suggest.specs.Descriptions.{IsOnlyLandOfText, IsSomeLandOfItems, NamesNoLand, NamesTownship};
 
-use crate::meaning::named::{find_with_lots, why_unread};
+use crate::meaning::named::{find_with_lots, why_no_reading};
+use crate::meaning::no_reading::NoReading;
 use crate::meaning::on_plat::{first_township, read};
-use crate::meaning::unread::Unread;
 use std::alloc::{AllocError, Global};
 use twp_grammar::Item;
 use twp_grid::Township;
@@ -15,8 +15,8 @@ use twp_land::{Land, Lanes, Lotting, PlaceSet};
 use twp_read::Description;
 use twp_resolve::resolve_into;
 
-/// Whether a text names land of a township, also by aliquot parts that include whole lots, which `land` is then. It is
-/// filled in place, as in `find_land`.
+/// Whether a text names land of a township, also by aliquot parts that include whole lots, which
+/// `land` is then. It is filled in place, as in `find_land`.
 pub(crate) fn find_text_with_lots<P: Lotting>(
     alloc: Global,
     text: &[u8],
@@ -38,14 +38,15 @@ pub(crate) fn find_text_with_lots<P: Lotting>(
     }
 }
 
-/// Finds the land of a description in a township, also by aliquot parts that include whole lots, which `land` is then.
+/// Finds the land of a description in a township, also by aliquot parts that include whole lots,
+/// which `land` is then.
 #[tactic(auto, using(crate::proofs::meaning::LandFacts::land_on_plat, crate::proofs::meaning::LandFacts::land_with_lots, crate::proofs::meaning::LandFacts::not_on_plat))]
 pub(crate) fn find_some_land<P: Lotting>(
     description: &Description,
     township: Township,
     land: &mut Lanes,
     lots: &P,
-) -> Result<(), Unread>
+) -> Result<(), NoReading>
     ensures land { OnOk result (IsSomeLandOfItems (lotting (P.layout lots.now)) township description.now
         (⟦<Lanes as PlaceSet>⟧.places land.new)) }
     ensures off_plat { IfErr result (λ _. ¬ AreOnPlat (lotting (P.layout lots.now)) township description.now) }
@@ -59,7 +60,7 @@ pub(crate) fn find_some_land<P: Lotting>(
             return Ok(());
         }
     }
-    Err(why_unread(description, lots))
+    Err(why_no_reading(description, lots))
 }
 
 /// Whether a description begins with this township, or names none.

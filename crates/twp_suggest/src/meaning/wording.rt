@@ -7,15 +7,15 @@ ghost use Rattle.twp_suggest.specs.Descriptions.{AreItemsOf, AreLotsNamed, IsAcc
 ghost use Rattle.twp_suggest.specs.Descriptions.{IsNoException, IsOfDivisions, IsRemainder, NamesTownship};
 ghost use Rattle.twp_grammar.specs.declared.item.Item.{Item as Named};
 ghost use Rattle.twp_suggest.specs.Descriptions.{as_written};
-ghost use Rattle.twp_suggest.specs.Excepting.{HasNoSemicolon, IsParted, IsSplit};
+ghost use Rattle.twp_suggest.specs.Excepting.{HasNoSemicolon, IsParted, AreAroundExcept};
 ghost use Rattle.twp_suggest.specs.Descriptions.{without_first_line};
 
 use crate::meaning::kept::{EXCEPT, Excepting, around_except, divide, has_semicolon};
 use crate::meaning::manner::Manner;
-use crate::meaning::named::{find_with_lots, why_unread};
+use crate::meaning::named::{find_with_lots, why_no_reading};
+use crate::meaning::no_reading::NoReading;
 use crate::meaning::on_plat::{first_township, read};
 use crate::meaning::some_land::{find_some_land, find_text_with_lots};
-use crate::meaning::unread::Unread;
 use std::alloc::{AllocError, Global};
 use twp_grammar::Item;
 use twp_grid::Township;
@@ -31,7 +31,8 @@ pub struct Excepted {
     pub at: usize,
 }
 
-/// A description derived from a changed text, the manner in which it was derived, and the items of the changed text.
+/// A description derived from a changed text, the manner in which it was derived, and the items of
+/// the changed text.
 #[derive(Drop)]
 pub struct Wording {
     pub text: Vec<u8>,
@@ -47,7 +48,7 @@ pub fn described<P: Lotting>(
     made: Vec<u8>,
     has_except: bool,
     lots: &P,
-) -> Result<Option<Wording>, Unread>
+) -> Result<Option<Wording>, NoReading>
     ensures described { IfOk result (λ it. IfSome it (λ found.
         IsDescribed (lotting (P.layout lots.now)) found.manner made.items found.text.items)) }
     ensures accepted { IfOk result (λ it. IfSome it (λ found. IsAccepted found.text.items)) }
@@ -60,10 +61,10 @@ pub fn described<P: Lotting>(
         return Ok(Some(wording));
     }
     let Some(description) = read(alloc, made.as_slice())? else {
-        return Err(Unread::Refused);
+        return Err(NoReading::Refused);
     };
     let Some(township) = first_township(description.items()) else {
-        return Err(Unread::Refused);
+        return Err(NoReading::Refused);
     };
     match is_on_plat(&description, township, lots) {
         Ok(()) => Ok(Some(Wording {
@@ -83,7 +84,7 @@ pub fn described<P: Lotting>(
                 excepted: None,
             }))
         }
-        Err(_) => Err(Unread::Refused),
+        Err(_) => Err(NoReading::Refused),
     }
 }
 
@@ -115,12 +116,12 @@ fn is_on_plat_in_all<P: Lotting>(
 }
 
 /// Reads a canonical description.
-fn accept(alloc: Global, text: &[u8]) -> Result<(), Unread>
+fn accept(alloc: Global, text: &[u8]) -> Result<(), NoReading>
     ensures { OnOk result (IsAccepted text.now) }
 {
     match read(alloc, text)? {
         Some(_) => Ok(()),
-        None => Err(Unread::Refused),
+        None => Err(NoReading::Refused),
     }
 }
 
@@ -133,7 +134,7 @@ fn with_lots_named<P: Lotting>(
     description: &Description,
     township: Township,
     lots: &P,
-) -> Result<Vec<u8>, Unread>
+) -> Result<Vec<u8>, NoReading>
     requires read { IsReadAs made.now description.now }
     requires township { NamesTownship description.now township }
     ensures { IfOk result (λ text. AreLotsNamed (lotting (P.layout lots.now)) made.now text.items) }
@@ -141,28 +142,29 @@ fn with_lots_named<P: Lotting>(
     let mut land = Lanes::empty();
     let is_named = find_with_lots(description, &mut land, lots);
     if !is_named {
-        return Err(why_unread(description, lots));
+        return Err(why_no_reading(description, lots));
     }
     let full = spell(alloc, &land, township, lots)?;
     let text = as_written(alloc, description, full.as_slice())?;
     Ok(text)
 }
 
-/// The canonical description of the land of a text that it doesn't except. All after the first `except` is excepted
-/// from all before it, or, if that can't be, each division of the text is by itself.
-fn without_excepted<P: Lotting>(alloc: Global, made: &[u8], lots: &P) -> Result<Wording, Unread>
+/// The canonical description of the land of a text that it doesn't except. All after the first
+/// `except` is excepted from all before it, or, if that can't be, each division of the text is by
+/// itself.
+fn without_excepted<P: Lotting>(alloc: Global, made: &[u8], lots: &P) -> Result<Wording, NoReading>
     ensures described { IfOk result (λ found.
         IsDescribed (lotting (P.layout lots.now)) found.manner made.now found.text.items) }
     ensures items { IfOk result (λ found. AreItemsOf made.now found.items found.excepted) }
 {
     let Some(parts) = around_except(made) else {
-        return Err(Unread::Refused);
+        return Err(NoReading::Refused);
     };
     let Some(description) = read(alloc, parts.whole)? else {
-        return Err(Unread::Refused);
+        return Err(NoReading::Refused);
     };
     let Some(township) = first_township(description.items()) else {
-        return Err(Unread::Refused);
+        return Err(NoReading::Refused);
     };
     if has_semicolon(parts.excepted) {
         let is_exception = is_exception(alloc, parts, township, lots)?;
@@ -173,8 +175,9 @@ fn without_excepted<P: Lotting>(alloc: Global, made: &[u8], lots: &P) -> Result<
     of_last(alloc, made, parts, description, township, lots)
 }
 
-/// Whether a text names land that can be excepted from that of another: which lies in it, and isn't all of it. Aliquot
-/// parts in both may include whole lots. Not inlined, since its sets of land would be cleared for each text.
+/// Whether a text names land that can be excepted from that of another: which lies in it, and isn't
+/// all of it. Aliquot parts in both may include whole lots. Not inlined, since its sets of land
+/// would be cleared for each text.
 #[inline(never)]
 fn is_exception<P: Lotting>(
     alloc: Global,
@@ -206,8 +209,8 @@ fn of_last<P: Lotting>(
     description: Description,
     township: Township,
     lots: &P,
-) -> Result<Wording, Unread>
-    requires split { IsSplit made.now parts.whole.now parts.excepted.now }
+) -> Result<Wording, NoReading>
+    requires split { AreAroundExcept made.now parts.whole.now parts.excepted.now }
     requires read { IsReadAs parts.whole.now description }
     requires only { (items : List Named) → IsReadAs parts.whole.now items → description ≡ items }
     ensures described { IfOk result (λ found.
@@ -227,8 +230,9 @@ fn of_last<P: Lotting>(
     )
 }
 
-/// The description of a text without the exceptions of its divisions, which semicolons separate. They name no land
-/// twice, so that no text has two readings, of which one excepts all after the first `except`.
+/// The description of a text without the exceptions of its divisions, which semicolons separate.
+/// They name no land twice, so that no text has two readings, of which one excepts all after the
+/// first `except`.
 #[inline(never)]
 fn of_each<P: Lotting>(
     alloc: Global,
@@ -236,8 +240,8 @@ fn of_each<P: Lotting>(
     _parts: Excepting<'_>,
     township: Township,
     lots: &P,
-) -> Result<Wording, Unread>
-    requires split { IsSplit made.now _parts.whole.now _parts.excepted.now }
+) -> Result<Wording, NoReading>
+    requires split { AreAroundExcept made.now _parts.whole.now _parts.excepted.now }
     requires more { ¬ HasNoSemicolon _parts.excepted.now }
     requires none { IsNoException (lotting (P.layout lots.now)) township
         _parts.whole.now _parts.excepted.now }
@@ -248,14 +252,14 @@ fn of_each<P: Lotting>(
     let both = divide(alloc, made)?;
     let (whole, excepted) = (both.whole.as_slice(), both.excepted.as_slice());
     let Some(description) = read(alloc, whole)? else {
-        return Err(Unread::Refused);
+        return Err(NoReading::Refused);
     };
     remainder(alloc, made, whole, description, excepted, 0, township, lots)
 }
 
-/// The canonical description of the land of a text without the land of another, which has to be in the same
-/// township, in the land of the first, and not all of it. Aliquot parts in both may include whole lots. Not inlined,
-/// since its sets of land would be cleared for each text.
+/// The canonical description of the land of a text without the land of another, which has to be in
+/// the same township, in the land of the first, and not all of it. Aliquot parts in both may
+/// include whole lots. Not inlined, since its sets of land would be cleared for each text.
 #[tactic(auto, using(crate::proofs::meaning::LandFacts::are_excepted))]
 #[inline(never)]
 fn remainder<P: Lotting>(
@@ -267,7 +271,7 @@ fn remainder<P: Lotting>(
     at: usize,
     township: Township,
     lots: &P,
-) -> Result<Wording, Unread>
+) -> Result<Wording, NoReading>
     requires parted { IsParted _made.now _whole.now excepted.now at }
     requires by_itself { at ≡ 0 → IsOfDivisions (lotting (P.layout lots.now)) township _made.now }
     requires read { IsReadAs _whole.now description }
@@ -280,11 +284,11 @@ fn remainder<P: Lotting>(
     let mut less = Lanes::empty();
     find_some_land(&description, township, &mut land, lots)?;
     let Some(items) = read(alloc, excepted)? else {
-        return Err(Unread::Refused);
+        return Err(NoReading::Refused);
     };
     find_some_land(&items, township, &mut less, lots)?;
     if !is_proper_part(&less, &land) {
-        return Err(Unread::Unfit);
+        return Err(NoReading::Unfit);
     }
     land.take_away(&less);
     let full = spell(alloc, &land, township, lots)?;

@@ -5,7 +5,7 @@ use Rattle.twp_grammar.specs.ItemPlaces.{item_of, item_places}
 use Rattle.twp_grammar.specs.declared.item.Item.TheVariants.{Chain}
 use Rattle.twp_land.proofs.LotBlocks.{meets_of_share}
 use Rattle.twp_resolve.specs.steps.ResolvingSteps.{AreAdded}
-use Rattle.twp_resolve.proofs.ChainFacts.{chain_places}
+use Rattle.twp_grammar.proofs.ChainFacts.{chain_places}
 use Rattle.twp_suggest.proofs.meaning.named.chain_named.Goals as goal
 
 pub returns-clause-added : goal.returns-clause-added

@@ -1,8 +1,8 @@
 use std::alloc::AllocError;
 
-/// Why a text isn't read.
+/// Why a text has no reading.
 #[derive(Clone, Copy, PartialEq, Eq)]
-pub enum Unread {
+pub enum NoReading {
     /// It names what no township has, or the reader refuses it.
     Refused,
     /// It names some land twice, or excepts what isn't of the land: another candidate may do neither.
@@ -11,8 +11,8 @@ pub enum Unread {
     Memory,
 }
 
-impl From<AllocError> for Unread {
-    fn from(_: AllocError) -> Unread {
-        Unread::Memory
+impl From<AllocError> for NoReading {
+    fn from(_: AllocError) -> NoReading {
+        NoReading::Memory
     }
 }
