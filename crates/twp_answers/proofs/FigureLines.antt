@@ -4,7 +4,7 @@ use Rattle.std.specs.List.{flat_map}
 use Rattle.std.proofs.lemmas.Grind.{flat_map-append}
 use Rattle.twp_measure.specs.Areas.{IsRounded}
 use Rattle.twp_notes.specs.Records.{Fields, record_numbered, records_of}
-use Rattle.twp_plat.specs.Plats.{TownshipPlat}
+use Rattle.twp_plat.specs.Plats.{SurveyPlat}
 use Rattle.twp_answers.specs.AccountFigures.{line_of}
 use Rattle.twp_answers.specs.ReportAnswers.{tract_line, total_lines, IsAccountOf}
 use Rattle.twp_answers.specs.Tracts.{TRACTS_LIMIT, TRACTS_MOST, tracts_heading, tract_records}
@@ -26,7 +26,7 @@ next_line old new figures longer figure name hundredths before after more name_i
     ∙ ap (flat_map line_of) (sym more)
 
 -- the figures of all tracts make the account
-pub account_of_figures : (plat : TownshipPlat) (bytes : List ℕ) (rest : List Fields) (tally : Tally)
+pub account_of_figures : (plat : SurveyPlat) (bytes : List ℕ) (rest : List Fields) (tally : Tally)
     (figures : List TractFigure) (total remaining : ℕ)
     → length bytes ≤ TRACTS_LIMIT
     → record_numbered (records_of bytes) 1 ≡ tracts_heading → tract_records bytes ≡ rest

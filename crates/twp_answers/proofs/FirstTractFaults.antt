@@ -5,7 +5,7 @@ use Rattle.std.specs.Prelude.{IfSome}
 use Rattle.std.proofs.lemmas.Bool.{cases_lt, cases_eq}
 use Rattle.twp_grid.specs.Townships.{Designation}
 use Rattle.twp_notes.specs.Records.{Fields, record_at, record_numbered, records_of}
-use Rattle.twp_plat.specs.Plats.{TownshipPlat}
+use Rattle.twp_plat.specs.Plats.{SurveyPlat}
 use Rattle.twp_answers.specs.Names.{has_name}
 use Rattle.twp_answers.specs.Tracts.{TRACTS_LIMIT, TRACTS_MOST, tracts_heading, tract_records}
 use Rattle.twp_answers.specs.Tracts.{name_in, description_in, IsTractRecord, AreTracts}
@@ -270,7 +270,7 @@ pub after_of_word : (bytes : List ℕ) (fields : Fields) (rest : List Fields) �
 after_of_word bytes fields rest split = record { first = rw split refl; after = rw split refl }
 
 -- the lines of a list's refusal are its answer
-pub list_refused : (plat : TownshipPlat) (bytes answer : List ℕ) (verdict : Verdict)
+pub list_refused : (plat : SurveyPlat) (bytes answer : List ℕ) (verdict : Verdict)
     (tract_fault : TractFault)
     → IsFirstTractFault STANDARD_LOTS plat.township bytes tract_fault
     → verdict_of tract_fault ≡ Some verdict → verdict ≢ Accepted → answer ≡ refusal_lines verdict

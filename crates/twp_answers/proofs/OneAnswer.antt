@@ -5,7 +5,7 @@ use Rattle.twp_grid.specs.Townships.{Designation}
 use Rattle.twp_grid.specs.declared.refusal.Refusal.{Refusal}
 use Rattle.twp_notes.specs.FieldNotes.{FieldNotes, AreNotes}
 use Rattle.twp_notes.proofs.OneAnswer.{one_notes, one_first, no_fault}
-use Rattle.twp_plat.specs.Plats.{TownshipPlat, IsPlatOf}
+use Rattle.twp_plat.specs.Plats.{SurveyPlat, IsPlatOf}
 use Rattle.twp_plat.specs.PlatFaults as plat_faults
 use Rattle.twp_plat.specs.declared.fault.PlatFault.{PlatFault}
 use Rattle.twp_plat.proofs.OneAnswer as plats
@@ -17,10 +17,10 @@ use Rattle.twp_answers.specs.Answers.{ArePlatted, Describe, AreRefused, IsNoDesc
 use Rattle.twp_grid.specs.Lands.{Lotting, STANDARD_LOTS}
 
 -- the plat of notes, or their fault
-abbrev made : TownshipPlat → Result TownshipPlat PlatFault
+abbrev made : SurveyPlat → Result SurveyPlat PlatFault
 made plat = Ok plat
 
-abbrev unmade : PlatFault → Result TownshipPlat PlatFault
+abbrev unmade : PlatFault → Result SurveyPlat PlatFault
 unmade fault = Err fault
 
 -- the land of items, or their fault
@@ -31,7 +31,7 @@ abbrev unfound : PlaceFault → Result (ℕ → ℕ → ℕ → Bool) PlaceFault
 unfound fault = Err fault
 
 -- the same notes make only one plat
-pub one_plat : (notes : List ℕ) (plat plat' : TownshipPlat) → ArePlatted notes plat → ArePlatted notes plat'
+pub one_plat : (notes : List ℕ) (plat plat' : SurveyPlat) → ArePlatted notes plat → ArePlatted notes plat'
     → plat ≡ plat'
 one_plat notes plat plat' are are' =
     let same : are.notes ≡ are'.notes = one_notes notes are.notes are'.notes are.notes_are are'.notes_are in
@@ -58,14 +58,14 @@ not_both : (notes : List ℕ) (refusal : Refusal) (others : FieldNotes) → AreR
 not_both notes refusal others is are = no_fault notes others is.fault are is.first.is
 
 -- bytes that make no plat do not make one
-pub not_platted : (notes : List ℕ) (refusal : Refusal) (plat : TownshipPlat) → IsNoPlat notes refusal
+pub not_platted : (notes : List ℕ) (refusal : Refusal) (plat : SurveyPlat) → IsNoPlat notes refusal
     → ArePlatted notes plat → ⊥
 not_platted notes refusal plat (inl is) are = not_both notes refusal are.notes is are.notes_are
 not_platted notes refusal plat (inr is) are =
     let same : is.notes ≡ are.notes = one_notes notes is.notes are.notes is.notes_are are.notes_are in
     let both : made plat ≡ unmade is.fault =
     plats.one_answer are.notes (Ok plat) (Err is.fault) are.plat_is
-    (subst (λ n. plat_faults.IsFirstFault n is.fault) same is.first) in
+    (subst (λ n. plat_faults.IsFirstPlatFault n is.fault) same is.first) in
     cc both
 
 -- bytes that are not a description of land describe none
@@ -94,7 +94,7 @@ one_plat_refusal notes r r' (inr is) (inr is') =
     let same : is.notes ≡ is'.notes = one_notes notes is.notes is'.notes is.notes_are is'.notes_are in
     let both : unmade is.fault ≡ unmade is'.fault =
     plats.one_answer is'.notes (Err is.fault) (Err is'.fault)
-    (subst (λ n. plat_faults.IsFirstFault n is.fault) same is.first) is'.first in
+    (subst (λ n. plat_faults.IsFirstPlatFault n is.fault) same is.first) is'.first in
     let fault : is.fault ≡ is'.fault = cc both in
     let refusals : Some r ≡ Some r' = sym is.refusal_is ∙ rw fault is'.refusal_is in
     cc refusals
@@ -127,4 +127,4 @@ one_refusal notes d r r' (inr is) (inl is') = absurd (not_platted notes r' is.pl
 one_refusal notes d r r' (inr is) (inr is') =
     let same : is.plat ≡ is'.plat = one_plat notes is.plat is'.plat is.platted is'.platted in
     one_description_refusal STANDARD_LOTS is'.plat.township d r r'
-    (subst (λ (p : TownshipPlat). IsNoDescription STANDARD_LOTS p.township d r) same is.refused) is'.refused
+    (subst (λ (p : SurveyPlat). IsNoDescription STANDARD_LOTS p.township d r) same is.refused) is'.refused

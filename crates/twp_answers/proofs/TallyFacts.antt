@@ -8,7 +8,7 @@ use Rattle.std.proofs.Math.ListN.{get_or-append}
 use Rattle.std.proofs.Math.Seq.{get_or-append_seam}
 use Rattle.twp_grid.specs.Lands.{no_places}
 use Rattle.twp_notes.specs.Records.{Fields, record_at, record_numbered, records_of}
-use Rattle.twp_plat.specs.Plats.{TownshipPlat}
+use Rattle.twp_plat.specs.Plats.{SurveyPlat}
 use Rattle.twp_answers.specs.Names.{has_name}
 use Rattle.twp_answers.specs.Tracts.{TRACTS_LIMIT, TRACTS_MOST, tracts_heading, tract_records, name_in}
 use Rattle.twp_answers.specs.ReportAnswers.{tract_line, IsTractLine, AreTractLines, text_of}
@@ -19,7 +19,7 @@ use Rattle.twp_answers.proofs.TractLands.{earlier_or_last}
 use Rattle.twp_grid.specs.Lands.{STANDARD_LOTS}
 
 -- the tally of no records
-pub no_tally : (plat : TownshipPlat) (rows : List Fields) (tally : Tally)
+pub no_tally : (plat : SurveyPlat) (rows : List Fields) (tally : Tally)
     → ((name : List ℕ) → has_name tally.earlier.names name ≡ false)
     → tally.earlier.places ≡ no_places → AreTotals plat no_places tally.totals → tally.text ≡ []
     → IsTallyOf plat rows 0 tally
@@ -31,7 +31,7 @@ no_tally plat rows tally names places totals text = record {
   text_is = text;
 }
 
-module _ (plat : TownshipPlat) (rows : List Fields) (count : ℕ) (old new : Tally)
+module _ (plat : SurveyPlat) (rows : List Fields) (count : ℕ) (old new : Tally)
     (before : IsTallyOf plat rows count old) (takes : TakesTract plat (record_at rows count) old new) where
   abbrev line : List ℕ
   line = tract_line (name_in (record_at rows count)) takes.hundredths
@@ -94,7 +94,7 @@ four_appended a b c d e x y z w is-b is-c is-d is-e =
     ∙ append_assoc a (x ++ y ++ z) w
 
 -- the account of all tracts
-pub accepted : (plat : TownshipPlat) (bytes text : List ℕ) (rest : List Fields) (tally : Tally)
+pub accepted : (plat : SurveyPlat) (bytes text : List ℕ) (rest : List Fields) (tally : Tally)
     → length bytes ≤ TRACTS_LIMIT
     → record_numbered (records_of bytes) 1 ≡ tracts_heading → tract_records bytes ≡ rest
     → length rest ≤ TRACTS_MOST

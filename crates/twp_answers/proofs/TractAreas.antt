@@ -5,7 +5,7 @@ use Rattle.twp_measure.specs.Areas.{Fraction}
 use Rattle.twp_grid.specs.Places.{PLACE_DIGITS}
 use Rattle.twp_grid.proofs.TotalFacts.{total-all_zero}
 use Rattle.twp_grid.specs.Lands.{no_places, union, SharePlace}
-use Rattle.twp_plat.specs.Plats.{TownshipPlat}
+use Rattle.twp_plat.specs.Plats.{SurveyPlat}
 use Rattle.twp_plat.specs.Pieces.{over_of}
 use Rattle.twp_plat.specs.Pieces.{ArePieces}
 use Rattle.twp_plat.specs.steps.Bounds.{OF_POSITION}
@@ -18,7 +18,7 @@ use Rattle.twp_plat.proofs.AreaLaws.{disjoint_areas_add, rest_within, is_place_o
 use Rattle.twp_plat.proofs.WholeAreas.{section_none}
 
 -- without places there is no area
-pub no_area : (plat : TownshipPlat) (pieces : ℕ → ℕ → ℕ → ℕ) → ArePieces plat pieces
+pub no_area : (plat : SurveyPlat) (pieces : ℕ → ℕ → ℕ → ℕ) → ArePieces plat pieces
     → IsLandArea PLACE_DIGITS plat no_places (record { units = 0; over = over_of plat })
 no_area plat pieces are =
     let sum : township_sum PLACE_DIGITS pieces no_places ≡ 0 =
@@ -50,7 +50,7 @@ left_of_left places more = λ i section column row.
 
 -- land that shares no place with the tracts so far is no larger than the remaining land, and leaves
 -- the rest of it
-pub taken_from : (plat : TownshipPlat) (places more : ℕ → ℕ → ℕ → Bool) (area rest : Fraction)
+pub taken_from : (plat : SurveyPlat) (places more : ℕ → ℕ → ℕ → Bool) (area rest : Fraction)
     → ¬ SharePlace places more
     → IsLandArea PLACE_DIGITS plat more area → IsLandArea PLACE_DIGITS plat (other_places places) rest
     → (area.units ≤ rest.units) × IsLandArea PLACE_DIGITS plat (other_places (union places more)) (record {
@@ -79,7 +79,7 @@ taken_from plat places more area rest apart is left =
     other false a is not_there = cc is
 
 -- the figures without tracts
-pub totals_none : (plat : TownshipPlat) (totals : Totals) → totals.total.units ≡ 0
+pub totals_none : (plat : SurveyPlat) (totals : Totals) → totals.total.units ≡ 0
     → totals.total.over ≡ over_of plat
     → IsLandArea PLACE_DIGITS plat (township_places PLACE_DIGITS) totals.remaining
     → AreTotals plat no_places totals
@@ -96,7 +96,7 @@ totals_none plat totals none over_is all =
     }
 
 -- the figures after adding land that shares no place with the land before it
-pub totals_next : (plat : TownshipPlat) (places more : ℕ → ℕ → ℕ → Bool) (old new : Totals) (area : Fraction)
+pub totals_next : (plat : SurveyPlat) (places more : ℕ → ℕ → ℕ → Bool) (old new : Totals) (area : Fraction)
     → ¬ SharePlace places more
     → IsLandArea PLACE_DIGITS plat more area → AreTotals plat places old → TakesArea area old new
     → AreTotals plat (union places more) new

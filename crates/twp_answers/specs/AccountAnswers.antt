@@ -3,7 +3,7 @@
 use Rattle.std.specs.Prelude.{◌≡◌, ℕ, List, Bool}
 use Rattle.twp_measure.specs.Areas.{Fraction, IsRounded}
 use Rattle.twp_grid.specs.Places.{PLACE_DIGITS}
-use Rattle.twp_plat.specs.Plats.{TownshipPlat}
+use Rattle.twp_plat.specs.Plats.{SurveyPlat}
 use Rattle.twp_answers.specs.Answers.{AnswersRefusal, IsLandOnPlat, IsRefusal}
 use Rattle.twp_answers.specs.Answers.{HasAcres, acres_line}
 use Rattle.twp_plat.specs.PlatAccounts.{IsPlatArea}
@@ -13,7 +13,7 @@ use Rattle.twp_plat.specs.declared.land_area.Account.TheVariants.{Exact, Plat}
 use Rattle.twp_answers.specs.declared.stop.Verdict.TheVariants.{Accepted, Refused, TractRefused}
 
 -- The hundredths of an acre of a set of places by the plat: its plat area, rounded once, half up.
-pub record ArePlatHundredthsOf (plat : TownshipPlat) (places : ℕ → ℕ → ℕ → Bool) (hundredths : ℕ)
+pub record ArePlatHundredthsOf (plat : SurveyPlat) (places : ℕ → ℕ → ℕ → Bool) (hundredths : ℕ)
     : Type 0 where
   pub area : Fraction
   pub area_is : IsPlatArea PLACE_DIGITS plat places area
@@ -22,7 +22,7 @@ pub record ArePlatHundredthsOf (plat : TownshipPlat) (places : ℕ → ℕ → �
 -- the notes make a plat, the description names land on it, and these are the land's hundredths of
 -- an acre by the plat
 pub record HasPlatAcres (notes description : List ℕ) (hundredths : ℕ) : Type 0 where
-  pub plat : TownshipPlat
+  pub plat : SurveyPlat
   pub places : ℕ → ℕ → ℕ → Bool
   pub land : IsLandOnPlat notes description plat places
   pub acres : ArePlatHundredthsOf plat places hundredths

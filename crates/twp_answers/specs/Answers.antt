@@ -6,7 +6,7 @@ use Rattle.twp_grid.specs.Townships.{Designation, line_feed}
 use Rattle.twp_grid.specs.declared.refusal.Refusal.{Refusal}
 use Rattle.twp_notes.specs.FieldNotes.{FieldNotes, AreNotes}
 use Rattle.twp_notes.specs.declared.fault.NotesFault.{NotesFault}
-use Rattle.twp_plat.specs.Plats.{TownshipPlat, IsPlatOf}
+use Rattle.twp_plat.specs.Plats.{SurveyPlat, IsPlatOf}
 use Rattle.twp_plat.specs.declared.fault.PlatFault.{PlatFault}
 use Rattle.twp_read.specs.TextFaults.{IsReadAs}
 use Rattle.twp_read.specs.declared.fault.TextFault.{TextFault}
@@ -23,14 +23,14 @@ use Rattle.twp_resolve.specs.PlaceFaults as place_faults
 use Rattle.twp_grid.specs.Lands.{Lotting, STANDARD_LOTS}
 
 -- the bytes are field notes that make this plat
-pub record ArePlatted (bytes : List ℕ) (plat : TownshipPlat) : Type 0 where
+pub record ArePlatted (bytes : List ℕ) (plat : SurveyPlat) : Type 0 where
   pub notes : FieldNotes
   pub notes_are : AreNotes bytes notes
   pub plat_is : IsPlatOf notes plat
 
 -- the bytes are field notes that make a plat
 abbrev pub MakePlat : List ℕ → Type 0
-MakePlat bytes = (plat : TownshipPlat) × ArePlatted bytes plat
+MakePlat bytes = (plat : SurveyPlat) × ArePlatted bytes plat
 
 -- the bytes are read as items that lie on the township's plat without overlapping, and this is their land
 pub record Describe (lots : Lotting) (township : Designation) (bytes : List ℕ) (places : ℕ → ℕ → ℕ → Bool)
@@ -40,7 +40,7 @@ pub record Describe (lots : Lotting) (township : Designation) (bytes : List ℕ)
   pub land : place_faults.IsLandOfItems lots township items places
 
 -- the notes make the plat, and the description names this land on it
-pub record IsLandOnPlat (notes description : List ℕ) (plat : TownshipPlat)
+pub record IsLandOnPlat (notes description : List ℕ) (plat : SurveyPlat)
     (places : ℕ → ℕ → ℕ → Bool) : Type 0 where
   pub platted : ArePlatted notes plat
   pub described : Describe STANDARD_LOTS plat.township description places
@@ -48,7 +48,7 @@ pub record IsLandOnPlat (notes description : List ℕ) (plat : TownshipPlat)
 -- the bytes are refused as notes, for their first fault
 pub record AreRefused (bytes : List ℕ) (refusal : Refusal) : Type 0 where
   pub fault : NotesFault
-  pub first : notes_faults.IsFirstFault bytes fault
+  pub first : notes_faults.IsFirstNotesFault bytes fault
   pub refusal_is : notes_faults.refusal_of fault ≡ Some refusal
 
 -- the bytes are notes that make no plat, for their first fault
@@ -56,7 +56,7 @@ pub record MakeNoPlat (bytes : List ℕ) (refusal : Refusal) : Type 0 where
   pub notes : FieldNotes
   pub notes_are : AreNotes bytes notes
   pub fault : PlatFault
-  pub first : plat_faults.IsFirstFault notes fault
+  pub first : plat_faults.IsFirstPlatFault notes fault
   pub refusal_is : plat_faults.refusal_of fault ≡ Some refusal
 
 -- the bytes cannot be read as items, for their first fault
@@ -80,7 +80,7 @@ IsNoDescription lots township text refusal = IsNoText text refusal ⊎ DescribeN
 
 -- the notes make a plat, and the description names no land on that plat
 pub record IsNoLandOnPlat (notes description : List ℕ) (refusal : Refusal) : Type 0 where
-  pub plat : TownshipPlat
+  pub plat : SurveyPlat
   pub platted : ArePlatted notes plat
   pub refused : IsNoDescription STANDARD_LOTS plat.township description refusal
 
@@ -104,14 +104,14 @@ abbrev pub AnswersRefusal : (Refusal → Type 0) → Refusal → List ℕ → Ty
 AnswersRefusal Is refusal answer = Is refusal × (answer ≡ refusal_line refusal)
 
 -- The hundredths of an acre of a set of places on a plat: its exact area, rounded once, half up.
-pub record AreHundredthsOf (plat : TownshipPlat) (places : ℕ → ℕ → ℕ → Bool) (hundredths : ℕ) : Type 0 where
+pub record AreHundredthsOf (plat : SurveyPlat) (places : ℕ → ℕ → ℕ → Bool) (hundredths : ℕ) : Type 0 where
   pub area : Fraction
   pub area_is : IsLandArea PLACE_DIGITS plat places area
   pub rounded : IsRounded area hundredths
 
 -- the notes make a plat, the description names land on it, and these are the land's hundredths of an acre
 pub record HasAcres (notes description : List ℕ) (hundredths : ℕ) : Type 0 where
-  pub plat : TownshipPlat
+  pub plat : SurveyPlat
   pub places : ℕ → ℕ → ℕ → Bool
   pub land : IsLandOnPlat notes description plat places
   pub acres : AreHundredthsOf plat places hundredths

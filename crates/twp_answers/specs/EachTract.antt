@@ -4,7 +4,7 @@ use Rattle.std.specs.Prelude.{◌≡◌, ◌≢◌, ℕ, ◌+◌, ◌≤◌, ◌
 use Rattle.std.specs.Prelude.{Result, Ok, Err, ⊤}
 use Rattle.twp_grid.specs.Townships.{Designation}
 use Rattle.twp_notes.specs.Records.{Fields, record_at, record_numbered, records_of}
-use Rattle.twp_plat.specs.Plats.{TownshipPlat}
+use Rattle.twp_plat.specs.Plats.{SurveyPlat}
 use Rattle.twp_plat.specs.declared.land_area.Account.TheVariants.{Exact}
 use Rattle.twp_plat.specs.declared.lots.returned.ReturnedLots.{ReturnedLots}
 use Rattle.twp_grid.specs.declared.refusal.Refusal.{Refusal}
@@ -24,7 +24,7 @@ abbrev pub DescriptionAnswers : Type 1
 DescriptionAnswers = List ℕ → Result ℕ Refusal → Type 0
 
 -- on a plat, the exact area of its land is rounded once, half up
-abbrev pub AnswersOnPlat : TownshipPlat → List ℕ → Result ℕ Refusal → Type 0
+abbrev pub AnswersOnPlat : SurveyPlat → List ℕ → Result ℕ Refusal → Type 0
 AnswersOnPlat plat description (Ok hundredths) = HasAcresOn plat description Exact hundredths
 AnswersOnPlat plat description (Err refusal) =
     IsNoDescription STANDARD_LOTS plat.township description refusal

@@ -7,7 +7,7 @@ use Rattle.twp_grid.specs.Lots.{POSITIONS_ACROSS}
 use Rattle.twp_grid.specs.Places.{places_across}
 use Rattle.twp_grid.specs.Townships.{Designation}
 use Rattle.twp_grid.specs.FinerLands.{finer_land}
-use Rattle.twp_plat.specs.Plats.{TownshipPlat}
+use Rattle.twp_plat.specs.Plats.{SurveyPlat}
 use Rattle.twp_plat.specs.LandAreas.{IsLandArea, places_of_position, township_sum}
 use Rattle.twp_plat.specs.PlatAccounts.{IsNominalShare, IsPlatArea}
 use Rattle.twp_grammar.specs.declared.item.Item.{Item}
@@ -29,7 +29,7 @@ pub record StaysTheSame (g finer : ℕ) : Type 0 where
   pub sums : (pieces : ℕ → ℕ → ℕ → ℕ) (places : ℕ → ℕ → ℕ → Bool)
       → township_sum finer pieces (finer_land places) ≡ 4 * township_sum g pieces places
   pub places_are_four : places_of_position finer ≡ 4 * places_of_position g
-  pub area : (plat : TownshipPlat) (places : ℕ → ℕ → ℕ → Bool) (area : Fraction)
+  pub area : (plat : SurveyPlat) (places : ℕ → ℕ → ℕ → Bool) (area : Fraction)
       → IsLandArea g plat places area ↔ IsLandArea finer plat (finer_land places) area
   pub text : (township : Designation) (places : ℕ → ℕ → ℕ → Bool) (text : List ℕ)
       → IsCanonicalText (standard_lots g) township places text
@@ -37,7 +37,7 @@ pub record StaysTheSame (g finer : ℕ) : Type 0 where
 
 -- the land's plat area is also the same
 abbrev pub KeepsPlatAreas : ℕ → ℕ → Type 0
-KeepsPlatAreas g finer = (plat : TownshipPlat) (places : ℕ → ℕ → ℕ → Bool) (area : Fraction)
+KeepsPlatAreas g finer = (plat : SurveyPlat) (places : ℕ → ℕ → ℕ → Bool) (area : Fraction)
     → IsPlatArea g plat places area ↔ IsPlatArea finer plat (finer_land places) area
 
 -- if a section's side has at least as many places as positions, everything stays the same with one

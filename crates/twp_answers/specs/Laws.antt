@@ -1,6 +1,6 @@
 -- Laws over the answers of the runs.
 use Rattle.std.specs.Prelude.{◌≡◌, ℕ, List, Bool}
-use Rattle.twp_plat.specs.Plats.{TownshipPlat}
+use Rattle.twp_plat.specs.Plats.{SurveyPlat}
 use Rattle.twp_plat.specs.declared.land_area.Account.{Account}
 use Rattle.twp_answers.specs.Answers.{IsLandOnPlat}
 use Rattle.twp_answers.specs.Answers.{IsAcresAnswer}
@@ -23,7 +23,7 @@ OneAnswer = (notes description : List ℕ) → IsOne (IsAcresAnswer notes descri
 -- however land is described, it has only one answer with the same notes
 abbrev pub OneAnswerOfLand : Type 0
 OneAnswerOfLand = (notes description description' answer answer' : List ℕ)
-    (verdict verdict' : Verdict) (plat : TownshipPlat) (places : ℕ → ℕ → ℕ → Bool)
+    (verdict verdict' : Verdict) (plat : SurveyPlat) (places : ℕ → ℕ → ℕ → Bool)
     → IsLandOnPlat notes description plat places → IsLandOnPlat notes description' plat places
     → IsAcresAnswer notes description answer verdict
     → IsAcresAnswer notes description' answer' verdict'

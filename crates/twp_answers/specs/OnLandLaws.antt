@@ -3,7 +3,7 @@ use Rattle.std.specs.Prelude.{◌≢◌, ◌≤◌, ◌↔◌, ℕ, List, Bool, 
 use Rattle.twp_grid.specs.Townships.{Designation}
 use Rattle.twp_grid.specs.Lands.{no_places}
 use Rattle.twp_grid.specs.Lands.{STANDARD_LOTS}
-use Rattle.twp_plat.specs.Plats.{TownshipPlat}
+use Rattle.twp_plat.specs.Plats.{SurveyPlat}
 use Rattle.twp_plat.specs.declared.land_area.Account.{Account}
 use Rattle.twp_read.specs.TextFaults.{TEXT_LIMIT}
 use Rattle.twp_spell.specs.ReadBack.{IsTownshipLand, HasTownshipNumbers}
@@ -13,7 +13,7 @@ use Rattle.twp_answers.specs.OnLands.{IsLandOf, AreAcresOf}
 
 -- the acres of a description on a plat are those of its land
 abbrev pub AcresOnAreOfLand : Type 0
-AcresOnAreOfLand = (plat : TownshipPlat) (description : List ℕ) (account : Account)
+AcresOnAreOfLand = (plat : SurveyPlat) (description : List ℕ) (account : Account)
     (places : ℕ → ℕ → ℕ → Bool) (hundredths : ℕ) → IsLandOf STANDARD_LOTS plat.township description places
     → HasAcresOn plat description account hundredths
     ↔ AreAcresOf plat account places hundredths

@@ -5,7 +5,7 @@ use Rattle.twp_measure.specs.Areas.{Fraction, IsRounded}
 use Rattle.twp_grid.specs.Places.{PLACE_DIGITS}
 use Rattle.twp_grid.specs.Townships.{Designation}
 use Rattle.twp_grid.specs.Lands.{HasWholeLots, Lotting}
-use Rattle.twp_plat.specs.Plats.{TownshipPlat}
+use Rattle.twp_plat.specs.Plats.{SurveyPlat}
 use Rattle.twp_plat.specs.PlatAccounts.{IsAreaBy}
 use Rattle.twp_plat.specs.declared.land_area.Account.{Account}
 use Rattle.twp_answers.specs.Answers.{Describe}
@@ -26,7 +26,7 @@ AnswersIn Has lots township description (Err stopped) = StopsOn lots township de
 
 -- these are the hundredths of an acre of the land on the plat, by the account: its area, rounded
 -- once, half up
-pub record AreAcresOf (plat : TownshipPlat) (account : Account) (places : ℕ → ℕ → ℕ → Bool)
+pub record AreAcresOf (plat : SurveyPlat) (account : Account) (places : ℕ → ℕ → ℕ → Bool)
     (hundredths : ℕ) : Type 0 where
   pub area : Fraction
   pub area_is : IsAreaBy account PLACE_DIGITS plat places area

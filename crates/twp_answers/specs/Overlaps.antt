@@ -6,7 +6,7 @@ use Rattle.twp_grid.specs.Lands.{Lotting, STANDARD_LOTS, intersection}
 use Rattle.twp_grid.specs.declared.refusal.Refusal.{Refusal}
 use Rattle.twp_notes.specs.Records.{Fields, record_at}
 use Rattle.twp_plat.specs.LotTables.{lots_of}
-use Rattle.twp_plat.specs.Plats.{TownshipPlat}
+use Rattle.twp_plat.specs.Plats.{SurveyPlat}
 use Rattle.twp_plat.specs.declared.lots.returned.ReturnedLots.{ReturnedLots}
 use Rattle.twp_answers.specs.Answers.{AreHundredthsOf}
 use Rattle.twp_answers.specs.LotLands.{HasLotAcres, IsLackingLot}
@@ -21,7 +21,7 @@ pub record Measure (Acres : Type 0) : Type 1 where
   pub are_acres : (ℕ → ℕ → ℕ → Bool) → Acres → Type 0
 
 -- a plat: the exact area is rounded once, half up, to hundredths of an acre
-abbrev pub measure_of_plat : TownshipPlat → Measure ℕ
+abbrev pub measure_of_plat : SurveyPlat → Measure ℕ
 measure_of_plat plat =
     record { township = plat.township; lots = STANDARD_LOTS; are_acres = AreHundredthsOf plat }
 

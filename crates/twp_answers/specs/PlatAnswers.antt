@@ -4,7 +4,7 @@ use Rattle.twp_measure.specs.Areas.{acres_text}
 use Rattle.twp_grid.specs.Winding.{SECTION_COUNT}
 use Rattle.twp_grid.specs.Lots.{number_of_lots}
 use Rattle.twp_grid.specs.Townships.{line_feed}
-use Rattle.twp_plat.specs.Plats.{TownshipPlat}
+use Rattle.twp_plat.specs.Plats.{SurveyPlat}
 use Rattle.twp_plat.specs.PlatFigures.{PlatFigures, AreFigures}
 use Rattle.twp_answers.specs.Answers.{AnswersRefusal, ArePlatted, IsNoPlat}
 use Rattle.twp_answers.specs.declared.stop.Verdict.{Verdict}
@@ -47,7 +47,7 @@ plat_text figures =
 
 -- The bytes are field notes that make a plat, and this is its text.
 pub record IsPrintedPlat (notes text : List ℕ) : Type 0 where
-  pub plat : TownshipPlat
+  pub plat : SurveyPlat
   pub platted : ArePlatted notes plat
   pub figures : PlatFigures
   pub are : AreFigures plat figures

@@ -4,7 +4,7 @@ use Rattle.std.specs.Prelude.{IsErrOf, ⊤}
 use Rattle.twp_grid.specs.Devices.{TakesAtMost}
 use Rattle.twp_grid.specs.declared.refusal.Refusal.{Refusal}
 use Rattle.twp_grid.specs.Devices.{TakesFirst}
-use Rattle.twp_plat.specs.Plats.{TownshipPlat}
+use Rattle.twp_plat.specs.Plats.{SurveyPlat}
 use Rattle.twp_answers.specs.Answers.{ArePlatted, IsNoPlat}
 use Rattle.twp_answers.specs.Uses.{Use}
 use Rattle.twp_answers.specs.declared.stop.Stop.{Stop}
@@ -18,7 +18,7 @@ IfRefused (stop.Refused refusal) Holds = Holds refusal
 IfRefused (stop.Failed fault) Holds = ⊤
 
 -- the plat that the bytes make as notes, or their refusal
-abbrev pub IsPlatted : List ℕ → Result TownshipPlat Stop → Type 0
+abbrev pub IsPlatted : List ℕ → Result SurveyPlat Stop → Type 0
 IsPlatted notes (Ok plat) = ArePlatted notes plat
 IsPlatted notes (Err stopped) = IfRefused stopped (IsNoPlat notes)
 

@@ -5,7 +5,7 @@ use Rattle.std.specs.Prelude.{Some, codes, slice_index_or}
 use Rattle.std.specs.List.{flat_map}
 use Rattle.twp_grid.specs.Places.{PLACE_DIGITS}
 use Rattle.twp_notes.specs.Records.{Fields, record_at}
-use Rattle.twp_plat.specs.Plats.{TownshipPlat}
+use Rattle.twp_plat.specs.Plats.{SurveyPlat}
 use Rattle.twp_answers.specs.Answers.{AnswersRefusal, ArePlatted, Describe, IsNoPlat, refusal_line}
 use Rattle.twp_answers.specs.Answers.{AreHundredthsOf, acres_line}
 use Rattle.twp_plat.specs.LandAreaLaws.{township_places}
@@ -22,7 +22,7 @@ abbrev pub tract_line : List ℕ → ℕ → List ℕ
 tract_line name hundredths = codes "tract " ++ name ++ codes ": " ++ acres_line hundredths
 
 -- the line of a tract's record: its name, and the acres of its land
-pub record IsTractLine (plat : TownshipPlat) (fields : Fields) (line : List ℕ) : Type 0 where
+pub record IsTractLine (plat : SurveyPlat) (fields : Fields) (line : List ℕ) : Type 0 where
   pub places : ℕ → ℕ → ℕ → Bool
   pub land : Describe STANDARD_LOTS plat.township (description_in fields) places
   pub hundredths : ℕ
@@ -30,7 +30,7 @@ pub record IsTractLine (plat : TownshipPlat) (fields : Fields) (line : List ℕ)
   pub line_is : line ≡ tract_line (name_in fields) hundredths
 
 -- the first records, up to this number, have these lines
-pub record AreTractLines (plat : TownshipPlat) (rows : List Fields) (count : ℕ)
+pub record AreTractLines (plat : SurveyPlat) (rows : List Fields) (count : ℕ)
     (lines : List (List ℕ)) : Type 0 where
   pub count_is : length lines ≡ count
   pub each : (index : ℕ) → index < count
@@ -52,7 +52,7 @@ total_lines total remaining =
 
 -- The account of tracts on a plat: a line for each, then the acres of all places in at least one
 -- tract, and then the acres of all others.
-pub record IsAccount (plat : TownshipPlat) (rows : List Fields) (text : List ℕ) : Type 0 where
+pub record IsAccount (plat : SurveyPlat) (rows : List Fields) (text : List ℕ) : Type 0 where
   pub lines : List (List ℕ)
   pub lines_are : AreTractLines plat rows (length rows) lines
   pub places : ℕ → ℕ → ℕ → Bool
@@ -64,7 +64,7 @@ pub record IsAccount (plat : TownshipPlat) (rows : List Fields) (text : List ℕ
   pub text_is : text ≡ text_of lines ++ total_lines total remaining
 
 -- the bytes are a list of tracts on the plat, and this is its account
-pub record IsAccountOf (plat : TownshipPlat) (bytes text : List ℕ) : Type 0 where
+pub record IsAccountOf (plat : SurveyPlat) (bytes text : List ℕ) : Type 0 where
   pub list : IsTractList STANDARD_LOTS plat.township bytes
   pub account : IsAccount plat (tract_records bytes) text
 
@@ -76,7 +76,7 @@ refusal_lines (TractRefused at_ inner) =
     refusal_line (record { number = 83; at = at_ }) ++ refusal_line inner
 
 -- the verdict is for the first fault of the list, and these are its lines
-pub record IsListRefused (plat : TownshipPlat) (bytes answer : List ℕ) (verdict : Verdict)
+pub record IsListRefused (plat : SurveyPlat) (bytes answer : List ℕ) (verdict : Verdict)
     : Type 0 where
   pub tract_fault : TractFault
   pub first : IsFirstTractFault STANDARD_LOTS plat.township bytes tract_fault
@@ -84,13 +84,13 @@ pub record IsListRefused (plat : TownshipPlat) (bytes answer : List ℕ) (verdic
   pub lines_are : answer ≡ refusal_lines verdict
 
 -- on a plat: the account of the list, or its refusal
-abbrev pub AnswersList : TownshipPlat → List ℕ → List ℕ → Verdict → Type 0
+abbrev pub AnswersList : SurveyPlat → List ℕ → List ℕ → Verdict → Type 0
 AnswersList plat bytes answer Accepted = IsAccountOf plat bytes answer
 AnswersList plat bytes answer other = IsListRefused plat bytes answer other
 
 -- the notes make a plat, and this is the answer for the list of tracts on it
 pub record IsAnswerOnPlat (notes tracts answer : List ℕ) (verdict : Verdict) : Type 0 where
-  pub plat : TownshipPlat
+  pub plat : SurveyPlat
   pub platted : ArePlatted notes plat
   pub answers : AnswersList plat tracts answer verdict
 

@@ -24,12 +24,12 @@ use crate::tract_fault::{TRACTS_LIMIT, TractFault};
 use crate::tracts::account_of;
 use std::alloc::{AllocError, Global};
 use twp_grid::{Source, Township};
-use twp_land::{Land, Lanes, Lotting, OneLanes, PlaceSet, StandardLots};
+use twp_land::{Land, Lanes, Lotting, OneLanes, PlaceSet, StandardLots, WholeSections};
 use twp_measure::{Area, write_acres};
 use twp_notes::Notes;
 use twp_plat::{Account, Plat, area_by};
 use twp_read::{Clarity, Description, Noted};
-use twp_resolve::{names_one_section, resolve_if_room, resolve_into};
+use twp_resolve::{may_be_whole, names_one_section, resolve_if_room, resolve_into, resolve_whole};
 use twp_spell::{spell, spell_set};
 
 /// The acres of the land described on a plat, by an account: the exact area in hundredths of an
@@ -91,6 +91,9 @@ pub fn area_described(
     ensures { (text : List ℕ) → IsReadAs text description.now
         → AnswersOn (HasAreaOn plat.now text account) plat.now text result }
 {
+    if may_be_whole(description) {
+        return area_of_whole(plat, description, account);
+    }
     if !names_one_section(description) {
         return area_in_all(plat, description, account);
     }
@@ -99,6 +102,19 @@ pub fn area_described(
         return area_in_all(plat, description, account);
     }
     Ok(area_by(account, plat, &land))
+}
+
+/// The same, if it may name whole sections alone, for which a smaller set of land is enough.
+#[inline(never)]
+fn area_of_whole(plat: &Plat, description: &Description, account: Account) -> Result<Area, Stop>
+    ensures { (text : List ℕ) → IsReadAs text description.now
+        → AnswersOn (HasAreaOn plat.now text account) plat.now text result }
+{
+    let mut sections = WholeSections::empty();
+    if !resolve_whole(&mut sections, description, plat.township()) {
+        return area_in_all(plat, description, account);
+    }
+    Ok(area_by(account, plat, &sections))
 }
 
 /// The same in however many sections it names land. The set of land is cleared where this function
@@ -122,6 +138,9 @@ pub fn normal_described(
     ensures { (text : List ℕ) → IsReadAs text description.now
         → AnswersOn (λ written. HasNormalOn plat.now text written.items) plat.now text result }
 {
+    if may_be_whole(description) {
+        return normal_of_whole(alloc, plat, description);
+    }
     if !names_one_section(description) {
         return normal_in_all(alloc, plat, description);
     }
@@ -130,6 +149,19 @@ pub fn normal_described(
         return normal_in_all(alloc, plat, description);
     }
     Ok(spell_set(alloc, &land, plat.township(), &StandardLots)?)
+}
+
+/// The same, if it may name whole sections alone, as for its area.
+#[inline(never)]
+fn normal_of_whole(alloc: Global, plat: &Plat, description: &Description) -> Result<Vec<u8>, Stop>
+    ensures { (text : List ℕ) → IsReadAs text description.now
+        → AnswersOn (λ written. HasNormalOn plat.now text written.items) plat.now text result }
+{
+    let mut sections = WholeSections::empty();
+    if !resolve_whole(&mut sections, description, plat.township()) {
+        return normal_in_all(alloc, plat, description);
+    }
+    Ok(spell_set(alloc, &sections, plat.township(), &StandardLots)?)
 }
 
 /// The same in however many sections it names land, as for its area.

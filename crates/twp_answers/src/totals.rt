@@ -19,7 +19,7 @@ pub(crate) struct Totals {
 impl Totals {
     ghost use Rattle.std.specs.Prelude.{ℕ, Bool, OnOk};
     ghost use Rattle.twp_grid.specs.Lands.{no_places};
-    ghost use Rattle.twp_plat.specs.Plats.{TownshipPlat};
+    ghost use Rattle.twp_plat.specs.Plats.{SurveyPlat};
     ghost use Rattle.twp_answers.specs.steps.TractTaking.{AreTotals, TakesArea, EndsAccount};
 
     /// The figures without tracts: the whole township remains.
@@ -47,7 +47,7 @@ impl Totals {
 
     /// Appends both figures, such as `total: 78.20 acres` and `remaining: 22959.37 acres`.
     pub(crate) fn write(&self, text: &mut Vec<u8>) -> Result<(), AllocError>
-        ensures { OnOk result ((plat : TownshipPlat) (places : ℕ → ℕ → ℕ → Bool)
+        ensures { OnOk result ((plat : SurveyPlat) (places : ℕ → ℕ → ℕ → Bool)
             → AreTotals plat places self.now
             → EndsAccount plat places text.old.items text.new.items) }
     {

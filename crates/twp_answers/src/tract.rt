@@ -6,7 +6,7 @@ ghost use Rattle.twp_answers.specs.Tracts.{tracts_heading, name_in, description_
 ghost use Rattle.twp_answers.specs.Tracts.{IsPrinted, IsTractName, IsTractRecord};
 
 use csv::ByteRecord;
-use twp_notes::{field, is_text};
+use twp_notes::{field, is_exactly};
 
 /// The number of fields in each record.
 const FIELDS: usize = 2;
@@ -26,10 +26,10 @@ pub(crate) struct TractRecord<'a> {
 pub fn is_heading(row: &ByteRecord) -> bool
     ensures { IsTrue result ↔ (fields_of row.now ≡ tracts_heading) }
 {
-    if row.len() != FIELDS || !is_text(field(row, 0), "name") {
+    if row.len() != FIELDS || !is_exactly(field(row, 0), "name") {
         return false;
     }
-    is_text(field(row, 1), "description")
+    is_exactly(field(row, 1), "description")
 }
 
 /// The tract of a record, if the record is a tract's.

@@ -11,7 +11,7 @@ use Rattle.std.proofs.lemmas.Bool.{cases_lt}
 use Rattle.twp_calls.specs.TractNames.{NAME_ROOM}
 use Rattle.std.proofs.Math.ListN.{get_or-append}
 use Rattle.std.proofs.Math.Seq.{get_or-append_seam}
-use Rattle.twp_plat.specs.Plats.{TownshipPlat}
+use Rattle.twp_plat.specs.Plats.{SurveyPlat}
 use Rattle.twp_answers.specs.AccountFigures.{line_of as figure_line}
 use Rattle.twp_answers.proofs.TractLands.{earlier_or_last}
 use Rattle.twp_answers.specs.ReportAnswers.{IsAccountOf, total_lines}
@@ -110,7 +110,7 @@ kept_next count old tracts tract before k d above =
     rw (get_or-set_other tracts count k tract d (λ same. absurd (omega arith))) (before k d (omega arith))
 
 -- all were put there
-pub all_put : (plat : TownshipPlat) (list : List ℕ) (figures : List TractFigure) (made : TownshipTotals)
+pub all_put : (plat : SurveyPlat) (list : List ℕ) (figures : List TractFigure) (made : TownshipTotals)
     (old new : List TownshipTract) (totals : TownshipTotals) (answer : TownshipAnswer) (count : ℕ)
     → count ≡ length figures → count ≤ length old → length new ≡ length old
     → flat_map line_of (take count new) ≡ flat_map figure_line (take count figures)
@@ -139,7 +139,7 @@ all_put plat list figures made old new totals answer count all room long lines e
     })
 
 -- there is less room than there are tracts
-pub too_many : (plat : TownshipPlat) (list : List ℕ) (figures : List TractFigure) (made : TownshipTotals)
+pub too_many : (plat : SurveyPlat) (list : List ℕ) (figures : List TractFigure) (made : TownshipTotals)
     (old : List TownshipTract) (totals : TownshipTotals) (answer : TownshipAnswer) (count : ℕ)
     → count ≡ length figures → length old < count → answer ≡ with_text (bare NO_ROOM) count
     → IsAccountOf plat list (flat_map figure_line figures ++ total_lines made.total made.remaining)

@@ -4,7 +4,7 @@ use Rattle.std.proofs.Common.{◌∙◌, ◌≢◌, ◌+◌, ◌*◌, ◌^◌, �
 use Rattle.std.proofs.Math.Nat.{mod-add-div}
 use Rattle.twp_grid.specs.Townships.{Designation}
 use Rattle.twp_grid.specs.declared.refusal.Refusal.{Refusal}
-use Rattle.twp_plat.specs.Plats.{TownshipPlat}
+use Rattle.twp_plat.specs.Plats.{SurveyPlat}
 use Rattle.twp_answers.specs.Answers.{IsNoPlat, IsNoDescription}
 use Rattle.twp_answers.specs.OnPlats.{StopsOn}
 use Rattle.twp_answers.specs.PlatReading.{IfRefused}
@@ -24,7 +24,7 @@ use Rattle.twp_calls.specs.Answers.{IsRefused, verdict_answer}
 use Rattle.twp_answers.specs.TractFaults.{refusal_of}
 use Rattle.twp_answers.specs.declared.tract_fault.TractFault.TheVariants as fault
 use Rattle.twp_calls.specs.GivenPlats.{IsGivenPlat}
-use Rattle.twp_calls.specs.declared.plat.TownshipPlat.{TownshipPlat as GivenPlat}
+use Rattle.twp_calls.specs.declared.plat.TownshipPlat.{TownshipPlat}
 use Rattle.twp_calls.specs.declared.answer.TownshipAnswer.{TownshipAnswer}
 use Rattle.twp_grid.specs.Lands.{Lotting, STANDARD_LOTS}
 
@@ -46,7 +46,7 @@ stopped_notes Accepted notes (stop.Refused refusal) first =
 stopped_notes Accepted notes (stop.Failed cause) is = no_memory refl
 
 -- a list that is refused, or for which memory ran out
-stopped_by : (Accepted : TownshipAnswer → Type 0) (plat : TownshipPlat) (list : List ℕ)
+stopped_by : (Accepted : TownshipAnswer → Type 0) (plat : SurveyPlat) (list : List ℕ)
     (is : TractFault) (found : Option Verdict) → verdict_of is ≡ found
     → IfSome found (λ verdict. IsFirstTractFault STANDARD_LOTS plat.township list is)
     → Answers Accepted (IsRefusedList plat list) (answer_of_verdict found)
@@ -60,15 +60,15 @@ stopped_by Accepted plat list is (Some verdict) same first =
     })
 stopped_by Accepted plat list is None same first = no_memory refl
 
-pub stopped_list : (Accepted : TownshipAnswer → Type 0) (plat : TownshipPlat) (list : List ℕ)
+pub stopped_list : (Accepted : TownshipAnswer → Type 0) (plat : SurveyPlat) (list : List ℕ)
     (is : TractFault) → AnswersFault STANDARD_LOTS plat.township list is
     → Answers Accepted (IsRefusedList plat list) (answer_of_fault is)
 stopped_list Accepted plat list is first =
     stopped_by Accepted plat list is (verdict_of is) refl first
 
 -- on the plat whose parts are given, a description that is refused, or for which memory ran out
-pub stops_on : (given : GivenPlat) (plat : TownshipPlat) → IsGivenPlat given plat
-    → (Accepted : TownshipPlat → TownshipAnswer → Type 0) (description : List ℕ) (stopping : Stop)
+pub stops_on : (given : TownshipPlat) (plat : SurveyPlat) → IsGivenPlat given plat
+    → (Accepted : SurveyPlat → TownshipAnswer → Type 0) (description : List ℕ) (stopping : Stop)
     (answer : TownshipAnswer) → answer ≡ stopped stopping
     → StopsOn STANDARD_LOTS plat.township description stopping
     → OfDescription given description Accepted answer
@@ -79,9 +79,9 @@ stops_on given plat is Accepted description stopping answer same stops =
     (stopped_on (Accepted plat) plat.township description stopping stops))
 
 -- the same by an account
-pub stops_by : (given : GivenPlat) (plat : TownshipPlat) → IsGivenPlat given plat
+pub stops_by : (given : TownshipPlat) (plat : SurveyPlat) → IsGivenPlat given plat
     → (code : ℕ) (account : Account) → account_of code ≡ Some account
-    → (Accepted : TownshipPlat → Account → TownshipAnswer → Type 0) (description : List ℕ)
+    → (Accepted : SurveyPlat → Account → TownshipAnswer → Type 0) (description : List ℕ)
     (stopping : Stop) (answer : TownshipAnswer) → answer ≡ stopped stopping
     → StopsOn STANDARD_LOTS plat.township description stopping
     → OfDescriptionBy given description code Accepted answer
@@ -134,7 +134,7 @@ refused_by fault.TooManyTracts refusal same = (_, refl, inl refl)
 refused_by fault.Memory refusal same = cc same
 
 -- a list that is refused, and its explanation
-pub explained_list : (plat : TownshipPlat) (list old new : List ℕ) (explained answer : TownshipAnswer)
+pub explained_list : (plat : SurveyPlat) (list old new : List ℕ) (explained answer : TownshipAnswer)
     (is : TractFault) (refusal : Refusal) → refusal_of is ≡ Some refusal
     → AnswersFault STANDARD_LOTS plat.township list is → explained ≡ answer_of_fault is
     → IsExplained (IsOfFirstFault plat list) explained old new answer

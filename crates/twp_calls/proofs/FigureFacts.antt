@@ -8,7 +8,7 @@ use Rattle.twp_measure.specs.Areas.{Fraction, IsRounded}
 use Rattle.twp_grid.specs.Finding.{Finds}
 use Rattle.twp_grid.specs.Winding.{IsSection}
 use Rattle.twp_grid.specs.Lots.{number_of_lots}
-use Rattle.twp_plat.specs.Plats.{TownshipPlat, IsPlat}
+use Rattle.twp_plat.specs.Plats.{SurveyPlat, IsPlat}
 use Rattle.twp_plat.specs.Pieces.{IsSectionArea, IsTownshipArea}
 use Rattle.twp_plat.specs.LotFigures.{IsFigureOfLot}
 use Rattle.twp_plat.specs.PlatFigures.{PlatFigures, AreFigures}
@@ -45,7 +45,7 @@ sections_next shown sections count place hundredths is within before here =
 
 -- ---- the figure of one place
 
-pub lot_or_none : (plat : TownshipPlat) (shown : PlatFigures) (section number : ℕ) (found : Option ℕ)
+pub lot_or_none : (plat : SurveyPlat) (shown : PlatFigures) (section number : ℕ) (found : Option ℕ)
     → AreFigures plat shown → IsSection section → 1 ≤ number
     → Finds found (IsFigureOfLot plat section number)
     → IsSome found ↔ ((1 ≤ number) × (number ≤ number_of_lots section))
@@ -59,7 +59,7 @@ lot_or_none plat shown section number None are range least finds has = record {
   none = λ above. refl;
 }
 
-pub section_figure : (plat : TownshipPlat) (shown : PlatFigures) (section hundredths : ℕ) (area : Fraction)
+pub section_figure : (plat : SurveyPlat) (shown : PlatFigures) (section hundredths : ℕ) (area : Fraction)
     → AreFigures plat shown → IsSection section → IsSectionArea plat section area → IsRounded area hundredths
     → hundredths ≡ shown.sections section
 section_figure plat shown section hundredths area are range area_is rounded =
@@ -90,7 +90,7 @@ numbers_of shown figures lots sections township = record {
   township = township;
 }
 
-pub shows : (plat : TownshipPlat) (figures : TownshipPlatFigures) (area : Fraction) → IsPlat plat
+pub shows : (plat : SurveyPlat) (figures : TownshipPlatFigures) (area : Fraction) → IsPlat plat
     → ((shown : PlatFigures) → AreFigures plat shown → AreLotsTo shown 252 figures.lots)
     → ((shown : PlatFigures) → AreFigures plat shown → AreSectionsTo shown 36 figures.sections)
     → IsTownshipArea plat area → IsRounded area figures.township → ShowsFigures plat figures

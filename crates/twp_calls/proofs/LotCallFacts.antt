@@ -5,7 +5,7 @@ use Rattle.twp_plat.specs.LotAreas.{IsFirstLacking}
 use Rattle.twp_plat.specs.LotTables.{figure_of, lots_of}
 use Rattle.twp_grid.specs.Townships.{Designation}
 use Rattle.twp_plat.specs.declared.lots.returned.ReturnedLots.{ReturnedLots}
-use Rattle.twp_plat.specs.LotsFaults.{IsFirstFault, lacking_refusal, refusal_of}
+use Rattle.twp_plat.specs.LotsFaults.{IsFirstLotsFault, lacking_refusal, refusal_of}
 use Rattle.twp_plat.specs.declared.lots.fault.LotsFault.{LotsFault}
 use Rattle.twp_answers.specs.declared.stop.Stop.{Stop}
 use Rattle.twp_answers.specs.declared.stop.Stop.TheVariants as stop
@@ -18,7 +18,7 @@ use Rattle.twp_calls.specs.steps.LotSteps.{StopsByLots}
 
 -- bytes that are no lot table, or for which memory ran out
 no_lots : (Accepted : TownshipAnswer → Type 0) (bytes : List ℕ) (fault : LotsFault)
-    (found : Option Refusal) → refusal_of fault ≡ found → IfSome found (λ _. IsFirstFault bytes fault)
+    (found : Option Refusal) → refusal_of fault ≡ found → IfSome found (λ _. IsFirstLotsFault bytes fault)
     → Answers Accepted (IsRefusedFor (AreNoLots bytes)) (answer_of_refusal found)
 no_lots Accepted bytes fault (Some refusal) same first =
     refused_for (record {
@@ -30,7 +30,7 @@ no_lots Accepted bytes fault None same first = no_memory refl
 
 pub refused_lots : (Accepted : TownshipAnswer → Type 0) (bytes : List ℕ) (fault : LotsFault)
     (answer : TownshipAnswer) → answer ≡ answer_of_refusal (refusal_of fault)
-    → IfSome (refusal_of fault) (λ _. IsFirstFault bytes fault)
+    → IfSome (refusal_of fault) (λ _. IsFirstLotsFault bytes fault)
     → Answers Accepted (IsRefusedFor (AreNoLots bytes)) answer
 refused_lots Accepted bytes fault answer same first =
     subst (Answers Accepted (IsRefusedFor (AreNoLots bytes))) (sym same)

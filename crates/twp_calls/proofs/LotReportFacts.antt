@@ -16,7 +16,7 @@ use Rattle.twp_calls.specs.Accounts.{tract_count}
 use Rattle.twp_calls.specs.Answers.{accepted_acres, answer_of_fault, answer_of_verdict, with_text}
 use Rattle.twp_calls.specs.Answers.{without_room}
 use Rattle.twp_calls.specs.Calls.{Answers, no_memory, refused_for}
-use Rattle.twp_calls.specs.LotReports.{HasAccountByLots, IsListRefusedByLots, IsTractByLots}
+use Rattle.twp_calls.specs.LotReports.{PutsAccountByLots, IsListRefusedByLots, IsTractByLots}
 use Rattle.twp_calls.specs.steps.Plain.{ArePlainTractsTo, IsPlainTract}
 use Rattle.twp_calls.specs.declared.account_call.TownshipTract.{TownshipTract}
 use Rattle.twp_calls.specs.declared.answer.TownshipAnswer.{TownshipAnswer}
@@ -49,7 +49,7 @@ pub all_put_by : (township : Designation) (lots : ReturnedLots) (list : List ℕ
     (old new : List TownshipTract) (answer : TownshipAnswer) → length figures ≤ length old
     → length new ≡ length old → ArePlainTractsTo (length figures) figures new
     → SameFrom old new (length figures) → answer ≡ with_text (accepted_acres total) (length figures)
-    → IsAccountByLots township lots list figures total → HasAccountByLots township lots list old new answer
+    → IsAccountByLots township lots list figures total → PutsAccountByLots township lots list old new answer
 all_put_by township lots list figures total old new answer room long plain kept is account =
     let number : length figures ≡ tract_count list = account.figures_are.count_is in
     inl (record {
@@ -70,7 +70,7 @@ pub too_many_by : (township : Designation) (lots : ReturnedLots) (list : List �
     (total : ℕ)
     (old : List TownshipTract) (answer : TownshipAnswer) → length old < length figures
     → answer ≡ without_room (accepted_acres total) (length figures)
-    → IsAccountByLots township lots list figures total → HasAccountByLots township lots list old old answer
+    → IsAccountByLots township lots list figures total → PutsAccountByLots township lots list old old answer
 too_many_by township lots list figures total old answer short is account =
     let number : length figures ≡ tract_count list = account.figures_are.count_is in
     inr (record {

@@ -3,7 +3,7 @@ use Rattle.std.proofs.Common.{◌≡◌, ℕ, List, Option, Some, None, Result, 
 use Rattle.std.proofs.Common.{ap, inl, inr, arith}
 use Rattle.twp_measure.specs.Areas.{Fraction}
 use Rattle.twp_grid.specs.Townships.{Designation}
-use Rattle.twp_plat.specs.Plats.{TownshipPlat}
+use Rattle.twp_plat.specs.Plats.{SurveyPlat}
 use Rattle.twp_plat.specs.declared.land_area.Account.TheVariants.{Exact}
 use Rattle.twp_answers.specs.LotLands.{HasLotAreaOf}
 use Rattle.twp_answers.specs.OnPlats.{HasAreaOn}
@@ -20,7 +20,7 @@ use Rattle.twp_calls.specs.declared.answer.TownshipAnswer.{TownshipAnswer}
 use Rattle.twp_calls.specs.declared.lots.TownshipLots.{TownshipLots as GivenLots}
 
 -- a description that is accepted, and its note
-pub noted_on : {E : Type 0} (Refused : TownshipAnswer → Type 0) (plat : TownshipPlat)
+pub noted_on : {E : Type 0} (Refused : TownshipAnswer → Type 0) (plat : SurveyPlat)
     (description old new : List ℕ) (answer : TownshipAnswer) (area : Fraction)
     (explained : Result (Option Note) E)
     → HasAreaOn plat description Exact area → IfOk explained (IsNoteOf description)
@@ -45,7 +45,7 @@ noted_by_lots Refused given township description old new answer area (Ok None) h
 noted_by_lots Refused given township description old new answer area (Err fault) has none is = no_memory is
 
 -- a list that is accepted, and its note
-pub noted_list_on : {E : Type 0} (Refused : TownshipAnswer → Type 0) (plat : TownshipPlat)
+pub noted_list_on : {E : Type 0} (Refused : TownshipAnswer → Type 0) (plat : SurveyPlat)
     (list old new : List ℕ) (answer : TownshipAnswer) (text : List ℕ) (explained : Result (Option Note) E)
     → IsAccountOf plat list text → AnswersNoted explained old new answer
     → Answers (IsOfAccount plat list old new) Refused answer

@@ -10,7 +10,7 @@ use Rattle.twp_grammar.specs.declared.tokens.Kind.TheVariants.{And, Semicolon}
 use Rattle.twp_calls.specs.Splits.{BeginsHeading, NoHeading, SeparateTownships, no_token, a_semicolon}
 use Rattle.twp_calls.specs.Splits.{semicolon_and, EndInSeparator, end_of_tokens}
 use Rattle.twp_calls.specs.steps.SplitSteps.{land_end, after_land, after_and, after_token, IsNextHeading}
-use Rattle.twp_calls.specs.steps.SplitSteps.{HasNoHeading}
+use Rattle.twp_calls.specs.steps.SplitSteps.{HasNoHeadingAfter}
 use Rattle.twp_calls.specs.declared.land_end.Separator.{Separator}
 use Rattle.twp_calls.specs.declared.land_end.Separator.TheVariants as separator
 use Rattle.twp_calls.specs.declared.land_end.LandEnd.{LandEnd}
@@ -298,7 +298,7 @@ heading_there text from at place state token s first begins place_is =
     }
 
 pub no_heading_there : (text : List ℕ) (from at : ℕ) (state : LandEnd) → AtToken text from at state
-    → AllPass is_white (drop at text) → HasNoHeading text from
+    → AllPass is_white (drop at text) → HasNoHeadingAfter text from
 no_heading_there text from at state s white = record {
   tokens = s.before ++ [];
   cut = s.joins [] white;

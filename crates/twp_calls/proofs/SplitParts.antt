@@ -10,7 +10,7 @@ use Rattle.twp_grammar.proofs.TokenFacts.{has_token_list, one_token_list}
 use Rattle.twp_calls.specs.Splits.{BeginsHeading, NoHeading, EndInSeparator, end_of_tokens, part_between}
 use Rattle.twp_calls.specs.Splits.{IsFirstOfSeveral, HaveOneTownship, AreParts, IsSplit}
 use Rattle.twp_calls.specs.Splits.{IsNoSplit, too_large, no_heading, SPLIT_LIMIT}
-use Rattle.twp_calls.specs.steps.SplitSteps.{IsNextHeading, HasNoHeading, AreHeadedParts}
+use Rattle.twp_calls.specs.steps.SplitSteps.{IsNextHeading, HasNoHeadingAfter, AreHeadedParts}
 use Rattle.twp_calls.specs.declared.next_heading.NextHeading.{NextHeading}
 use Rattle.twp_calls.specs.declared.unread.TownshipStretch.{TownshipStretch}
 
@@ -115,7 +115,7 @@ at_next_heading text from start at parts next part s found part_is =
 
 -- the last part
 pub headed_parts_are : (text : List ℕ) (from start at : ℕ) (parts : List TownshipStretch)
-    (part : TownshipStretch) → AtHeading text from start at parts → HasNoHeading text at
+    (part : TownshipStretch) → AtHeading text from start at parts → HasNoHeadingAfter text at
     → part ≡ part_between start (length text) → AreHeadedParts text from (parts ++ part ∷ [])
 headed_parts_are text from start at parts part s none part_is = record {
   of = λ first begins ends.
@@ -145,7 +145,7 @@ split_with_heading text from token parts within first begins ends headed =
 -- a text with no heading after its first token, which begins none
 pub split_without_heading : (text : List ℕ) (from : ℕ) (token : Token) (parts : List TownshipStretch)
     → length text ≤ SPLIT_LIMIT → IsFirstIn text 0 token → token.at + length token.text ≡ from
-    → HasNoHeading text from → parts ≡ part_between 0 (length text) ∷ [] → IsSplit text parts
+    → HasNoHeadingAfter text from → parts ≡ part_between 0 (length text) ∷ [] → IsSplit text parts
 split_without_heading text from token parts within first ends none parts_are =
     let there : HasTokens (token.at + length token.text) (drop (token.at + length token.text) text)
     none.tokens =

@@ -3,14 +3,14 @@ use Rattle.std.proofs.Common.{ℕ, List}
 use Rattle.twp_notes.specs.FieldNotes.{FieldNotes}
 use Rattle.twp_notes.specs.NotesTexts.{AreWithinLimits}
 use Rattle.twp_notes.proofs.WrittenNotes.{written_is_read}
-use Rattle.twp_plat.specs.Plats.{TownshipPlat, closing_quarter_of}
+use Rattle.twp_plat.specs.Plats.{SurveyPlat, closing_quarter_of}
 use Rattle.twp_plat.specs.PlatNotes.{AreNotesFor, IsTextFor}
 use Rattle.twp_plat.proofs.PlatNoteFacts.{are_lengths, plat_of}
 use Rattle.twp_answers.specs.Answers.{ArePlatted}
 use Rattle.twp_calls.specs.GivenPlats.{IsGivenPlat}
-use Rattle.twp_calls.specs.declared.plat.TownshipPlat.{TownshipPlat as GivenPlat}
+use Rattle.twp_calls.specs.declared.plat.TownshipPlat.{TownshipPlat}
 
-within_limits : (given : GivenPlat) (notes : FieldNotes) (plat : TownshipPlat) → IsGivenPlat given plat
+within_limits : (given : TownshipPlat) (notes : FieldNotes) (plat : SurveyPlat) → IsGivenPlat given plat
     → AreNotesFor plat notes → AreWithinLimits notes
 within_limits given notes plat is are =
     let (number, range) = is.township.parts in
@@ -23,7 +23,7 @@ within_limits given notes plat is are =
           (are_lengths (closing_quarter_of plat line) (is.is.within line is_line).most);
     }
 
-pub platted : (given : GivenPlat) (plat : TownshipPlat) (text : List ℕ) → IsGivenPlat given plat
+pub platted : (given : TownshipPlat) (plat : SurveyPlat) (text : List ℕ) → IsGivenPlat given plat
     → IsTextFor plat text → ArePlatted text plat
 platted given plat text is written = record {
   notes = written.notes;

@@ -1,7 +1,7 @@
 -- The account of a list of tracts, as numbers: written out, they are the text of `township_report`.
 use Rattle.std.specs.Prelude.{◌≡◌, ◌⊎◌, ℕ, ◌<◌, ◌≤◌, List, ◌++◌, length, take}
 use Rattle.std.specs.List.{All, SameFrom, flat_map}
-use Rattle.twp_plat.specs.Plats.{TownshipPlat}
+use Rattle.twp_plat.specs.Plats.{SurveyPlat}
 use Rattle.twp_answers.specs.ReportAnswers.{IsAccountOf, tract_line, total_lines}
 use Rattle.twp_answers.specs.Tracts.{IsTractList, tract_records}
 use Rattle.twp_calls.specs.Answers.{ACCEPTED, NO_ROOM, bare, with_text}
@@ -10,7 +10,7 @@ use Rattle.twp_calls.specs.TractNames.{IsEnded}
 use Rattle.twp_calls.specs.declared.account_call.TownshipTotals.{TownshipTotals}
 use Rattle.twp_calls.specs.declared.account_call.TownshipTract.{TownshipTract}
 use Rattle.twp_calls.specs.declared.answer.TownshipAnswer.{TownshipAnswer}
-use Rattle.twp_calls.specs.declared.plat.TownshipPlat.{TownshipPlat as GivenPlat}
+use Rattle.twp_calls.specs.declared.plat.TownshipPlat.{TownshipPlat}
 use Rattle.twp_grid.specs.Lands.{STANDARD_LOTS}
 
 -- the line of a tract in the text of an account
@@ -30,7 +30,7 @@ abbrev pub HasEndedName : TownshipTract → Type 0
 HasEndedName tract = IsEnded tract.name_length tract.name
 
 -- The figures of the account were written at the front of the room, and nothing else.
-pub record AreFiguresPut (plat : TownshipPlat) (list : List ℕ) (old new : List TownshipTract)
+pub record AreFiguresPut (plat : SurveyPlat) (list : List ℕ) (old new : List TownshipTract)
     (totals : TownshipTotals) (answer : TownshipAnswer) : Type 0 where
   pub room : tract_count list ≤ length old
   pub length_is : length new ≡ length old
@@ -40,20 +40,20 @@ pub record AreFiguresPut (plat : TownshipPlat) (list : List ℕ) (old new : List
   pub answer_is : answer ≡ with_text (bare ACCEPTED) (tract_count list)
 
 -- the list has an account, but there is less room than it has tracts
-pub record HasNoRoom (plat : TownshipPlat) (list : List ℕ) (old : List TownshipTract)
+pub record HasNoRoom (plat : SurveyPlat) (list : List ℕ) (old : List TownshipTract)
     (answer : TownshipAnswer) : Type 0 where
   pub list_is : IsTractList STANDARD_LOTS plat.township list
   pub short : length old < tract_count list
   pub answer_is : answer ≡ with_text (bare NO_ROOM) (tract_count list)
 
 -- the list has an account, whose figures were written, or for which there is no room
-abbrev pub AnswersAccount : TownshipPlat → List ℕ → List TownshipTract → List TownshipTract → TownshipTotals
+abbrev pub AnswersAccount : SurveyPlat → List ℕ → List TownshipTract → List TownshipTract → TownshipTotals
     → TownshipAnswer → Type 0
 AnswersAccount plat list old new totals answer =
     AreFiguresPut plat list old new totals answer ⊎ HasNoRoom plat list old answer
 
 -- `township_account`: the figures of the account of the list
-abbrev pub IsAccountCall : GivenPlat → List ℕ → List TownshipTract → List TownshipTract → TownshipTotals
+abbrev pub IsAccountCall : TownshipPlat → List ℕ → List TownshipTract → List TownshipTract → TownshipTotals
     → TownshipAnswer → Type 0
 IsAccountCall given list old new totals = OnPlat given (λ plat.
     Answers (AnswersAccount plat list old new totals) (IsRefusedList plat list))

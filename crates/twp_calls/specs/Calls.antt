@@ -3,7 +3,7 @@ use Rattle.std.specs.Prelude.{◌≡◌, ℕ, ◌+◌, ◌*◌, ◌^◌, ◌<◌
 use Rattle.std.specs.Prelude.{◌==◌, if◌then◌else◌, codes}
 use Rattle.twp_measure.specs.Areas.{Fraction}
 use Rattle.twp_grid.specs.declared.refusal.Refusal.{Refusal}
-use Rattle.twp_plat.specs.Plats.{TownshipPlat}
+use Rattle.twp_plat.specs.Plats.{SurveyPlat}
 use Rattle.twp_plat.specs.declared.land_area.Account.{Account}
 use Rattle.twp_plat.specs.declared.land_area.Account.TheVariants.{Exact, Plat}
 use Rattle.twp_answers.specs.Answers.{ArePlatted, IsNoPlat, IsNoDescription}
@@ -16,14 +16,14 @@ use Rattle.twp_calls.specs.Answers.{ACCEPTED, NO_PLAT, NO_ACCOUNT, NO_MEMORY, ba
 use Rattle.twp_calls.specs.Answers.{with_text, without_room, refused, verdict_answer}
 use Rattle.twp_calls.specs.GivenPlats.{IsGivenPlat, IsNoGivenPlat, given_of}
 use Rattle.twp_calls.specs.declared.answer.TownshipAnswer.{TownshipAnswer}
-use Rattle.twp_calls.specs.declared.plat.TownshipPlat.{TownshipPlat as GivenPlat}
+use Rattle.twp_calls.specs.declared.plat.TownshipPlat.{TownshipPlat}
 use Rattle.twp_calls.specs.declared.fraction.TownshipFraction.{TownshipFraction}
 use Rattle.twp_grid.specs.Lands.{STANDARD_LOTS}
 
 -- The given parts are those of a plat, on which the call answers, or of none.
-pub data OnPlat (given : GivenPlat) (Answers : TownshipPlat → TownshipAnswer → Type 0)
+pub data OnPlat (given : TownshipPlat) (Answers : SurveyPlat → TownshipAnswer → Type 0)
     (answer : TownshipAnswer) : Type 0 where
-  on_plat : (plat : TownshipPlat) → IsGivenPlat given plat → Answers plat answer
+  on_plat : (plat : SurveyPlat) → IsGivenPlat given plat → Answers plat answer
       → OnPlat given Answers answer
   on_none : IsNoGivenPlat given → answer ≡ bare NO_PLAT → OnPlat given Answers answer
 
@@ -67,35 +67,35 @@ pub record IsTextPut (IsSuch : List ℕ → Type 0) (old new : List ℕ) (answer
   pub put_is : IsPut (bare ACCEPTED) text old new answer
 
 -- `township_read`: the parts of the plat that the notes make
-pub record IsRead (notes : List ℕ) (new : GivenPlat) (answer : TownshipAnswer) : Type 0 where
-  pub plat : TownshipPlat
+pub record IsRead (notes : List ℕ) (new : TownshipPlat) (answer : TownshipAnswer) : Type 0 where
+  pub plat : SurveyPlat
   pub platted : ArePlatted notes plat
   pub parts : new ≡ given_of plat
   pub answer_is : answer ≡ bare ACCEPTED
 
-abbrev pub IsReadCall : List ℕ → GivenPlat → TownshipAnswer → Type 0
+abbrev pub IsReadCall : List ℕ → TownshipPlat → TownshipAnswer → Type 0
 IsReadCall notes new = Answers (IsRead notes new) (IsRefusedFor (IsNoPlat notes))
 
 -- `township_acres`: the hundredths of an acre of the land described
-pub record AnswersAcres (plat : TownshipPlat) (description : List ℕ) (account : Account)
+pub record AnswersAcres (plat : SurveyPlat) (description : List ℕ) (account : Account)
     (answer : TownshipAnswer) : Type 0 where
   pub hundredths : ℕ
   pub has : HasAcresOn plat description account hundredths
   pub answer_is : answer ≡ accepted_acres hundredths
 
 -- what a call answers on the plat that the parts make, of a description
-abbrev pub OfDescription : GivenPlat → List ℕ → (TownshipPlat → TownshipAnswer → Type 0)
+abbrev pub OfDescription : TownshipPlat → List ℕ → (SurveyPlat → TownshipAnswer → Type 0)
     → TownshipAnswer → Type 0
 OfDescription given description Accepted = OnPlat given (λ plat.
     Answers (Accepted plat) (IsRefusedFor (IsNoDescription STANDARD_LOTS plat.township description)))
 
 -- the same by an account
-abbrev pub OfDescriptionBy : GivenPlat → List ℕ → ℕ
-    → (TownshipPlat → Account → TownshipAnswer → Type 0) → TownshipAnswer → Type 0
+abbrev pub OfDescriptionBy : TownshipPlat → List ℕ → ℕ
+    → (SurveyPlat → Account → TownshipAnswer → Type 0) → TownshipAnswer → Type 0
 OfDescriptionBy given description code Accepted = OnPlat given (λ plat. ByAccount code (λ account.
     Answers (Accepted plat account) (IsRefusedFor (IsNoDescription STANDARD_LOTS plat.township description))))
 
-abbrev pub IsAcresCall : GivenPlat → List ℕ → ℕ → TownshipAnswer → Type 0
+abbrev pub IsAcresCall : TownshipPlat → List ℕ → ℕ → TownshipAnswer → Type 0
 IsAcresCall given description code = OfDescriptionBy given description code (λ plat account.
     AnswersAcres plat description account)
 
@@ -105,29 +105,29 @@ pub record IsFractionOf (parts : TownshipFraction) (area : Fraction) : Type 0 wh
   pub over : parts.over ≡ area.over
 
 -- `township_area`: the parts of the exact area of the land described
-pub record HasArea (plat : TownshipPlat) (description : List ℕ) (account : Account)
+pub record HasArea (plat : SurveyPlat) (description : List ℕ) (account : Account)
     (new : TownshipFraction) (answer : TownshipAnswer) : Type 0 where
   pub area : Fraction
   pub has : HasAreaOn plat description account area
   pub parts : IsFractionOf new area
   pub answer_is : answer ≡ bare ACCEPTED
 
-abbrev pub IsAreaCall : GivenPlat → List ℕ → ℕ → TownshipFraction → TownshipAnswer → Type 0
+abbrev pub IsAreaCall : TownshipPlat → List ℕ → ℕ → TownshipFraction → TownshipAnswer → Type 0
 IsAreaCall given description code new = OfDescriptionBy given description code (λ plat account.
     HasArea plat description account new)
 
 -- `township_normal`: the canonical text of the land described
-abbrev pub IsNormalCall : GivenPlat → List ℕ → List ℕ → List ℕ → TownshipAnswer → Type 0
+abbrev pub IsNormalCall : TownshipPlat → List ℕ → List ℕ → List ℕ → TownshipAnswer → Type 0
 IsNormalCall given description old new = OfDescription given description (λ plat.
     IsTextPut (HasNormalOn plat description) old new)
 
 -- `township_print`: the text of the plat, which nothing refuses
-abbrev pub IsPrintCall : GivenPlat → List ℕ → List ℕ → TownshipAnswer → Type 0
+abbrev pub IsPrintCall : TownshipPlat → List ℕ → List ℕ → TownshipAnswer → Type 0
 IsPrintCall given old new = OnPlat given (λ plat.
     Answers (IsTextPut (IsTextOfPlat plat) old new) (λ answer. ⊥))
 
 -- the answer is the verdict on the first fault of the list
-pub record IsRefusedList (plat : TownshipPlat) (list : List ℕ) (answer : TownshipAnswer)
+pub record IsRefusedList (plat : SurveyPlat) (list : List ℕ) (answer : TownshipAnswer)
     : Type 0 where
   pub fault : TractFault
   pub first : IsFirstTractFault STANDARD_LOTS plat.township list fault
@@ -136,7 +136,7 @@ pub record IsRefusedList (plat : TownshipPlat) (list : List ℕ) (answer : Towns
   pub answer_is : answer ≡ verdict_answer verdict
 
 -- `township_report`: the account of the list
-abbrev pub IsReportCall : GivenPlat → List ℕ → List ℕ → List ℕ → TownshipAnswer → Type 0
+abbrev pub IsReportCall : TownshipPlat → List ℕ → List ℕ → List ℕ → TownshipAnswer → Type 0
 IsReportCall given list old new = OnPlat given (λ plat.
     Answers (IsTextPut (IsAccountOf plat list) old new) (IsRefusedList plat list))
 

@@ -16,7 +16,7 @@ use Rattle.twp_calls.specs.Calls.{Answers, OnPlat}
 use Rattle.twp_calls.specs.TractNames.{IsEnded}
 use Rattle.twp_calls.specs.declared.answer.TownshipAnswer.{TownshipAnswer}
 use Rattle.twp_calls.specs.declared.each_call.TownshipTractAnswer.{TownshipTractAnswer}
-use Rattle.twp_calls.specs.declared.plat.TownshipPlat.{TownshipPlat as GivenPlat}
+use Rattle.twp_calls.specs.declared.plat.TownshipPlat.{TownshipPlat}
 
 -- the acres of a tract, or why it is refused
 abbrev pub answer_of_tract : Result ℕ TractFault → TownshipAnswer
@@ -67,7 +67,7 @@ pub record IsWholeListRefused (list : List ℕ) (answer : TownshipAnswer) : Type
   pub answer_is : answer ≡ verdict_answer verdict
 
 -- `township_report_each`: the answer to each tract of the list
-abbrev pub IsEachCall : GivenPlat → List ℕ → List TownshipTractAnswer → List TownshipTractAnswer
+abbrev pub IsEachCall : TownshipPlat → List ℕ → List TownshipTractAnswer → List TownshipTractAnswer
     → TownshipAnswer → Type 0
 IsEachCall given list old new = OnPlat given (λ plat.
     Answers (HasAnswers (AnswersOnPlat plat) list old new) (IsWholeListRefused list))

@@ -8,7 +8,7 @@ use Rattle.twp_excerpt.specs.declared.spot.Spot.{Spot}
 use Rattle.twp_grid.specs.Townships.{Designation}
 use Rattle.twp_grid.specs.declared.refusal.Refusal.{Refusal}
 use Rattle.twp_measure.specs.Areas.{Fraction}
-use Rattle.twp_plat.specs.Plats.{TownshipPlat}
+use Rattle.twp_plat.specs.Plats.{SurveyPlat}
 use Rattle.twp_plat.specs.declared.land_area.Account.TheVariants.{Exact}
 use Rattle.twp_answers.specs.Answers.{ArePlatted, IsNoPlat, IsNoDescription}
 use Rattle.twp_answers.specs.OnPlats.{HasAreaOn}
@@ -24,7 +24,7 @@ use Rattle.twp_explain.specs.declared.note.Note.{Note}
 use Rattle.twp_calls.specs.Answers.{ACCEPTED, IsRefused, bare, refused, verdict_answer}
 use Rattle.twp_calls.specs.Calls.{Answers, IsPut, OnPlat}
 use Rattle.twp_calls.specs.declared.answer.TownshipAnswer.{TownshipAnswer}
-use Rattle.twp_calls.specs.declared.plat.TownshipPlat.{TownshipPlat as GivenPlat}
+use Rattle.twp_calls.specs.declared.plat.TownshipPlat.{TownshipPlat}
 use Rattle.twp_grid.specs.Lands.{Lotting, STANDARD_LOTS}
 
 -- an answer with a line and a column
@@ -90,14 +90,14 @@ pub record IsExplainedRefusal (HasFirst : Refusal → Type 0) (old new : List �
   pub explained : IsExplained HasFirst (refused refusal) old new answer
 
 -- the refusal is that of the first fault of the list
-pub record IsOfFirstFault (plat : TownshipPlat) (list : List ℕ) (refusal : Refusal) : Type 0 where
+pub record IsOfFirstFault (plat : SurveyPlat) (list : List ℕ) (refusal : Refusal) : Type 0 where
   pub fault : TractFault
   pub first : IsFirstTractFault STANDARD_LOTS plat.township list fault
   pub refusal_is : refusal_of fault ≡ Some refusal
 
 -- `township_explain_notes`: of notes that make a plat nothing is explained
 pub record IsOfPlat (notes : List ℕ) (answer : TownshipAnswer) : Type 0 where
-  pub plat : TownshipPlat
+  pub plat : SurveyPlat
   pub platted : ArePlatted notes plat
   pub answer_is : answer ≡ bare ACCEPTED
 
@@ -107,7 +107,7 @@ ExplainsNotes notes old new =
 
 -- `township_explain_description`: of a description that has an area on the plat, its first doubtful place is
 -- noted
-pub record IsOfArea (plat : TownshipPlat) (description old new : List ℕ) (answer : TownshipAnswer)
+pub record IsOfArea (plat : SurveyPlat) (description old new : List ℕ) (answer : TownshipAnswer)
     : Type 0 where
   pub area : Fraction
   pub has : HasAreaOn plat description Exact area
@@ -134,19 +134,19 @@ pub record IsExplainedDescription (lots : Lotting) (township : Designation)
   pub explained : IsExplainedRefusal (IsNoDescription lots township description) old new answer
   pub place : IsWhereRefused description explained.refusal answer.line answer.column
 
-abbrev pub ExplainsDescription : GivenPlat → List ℕ → List ℕ → List ℕ → TownshipAnswer → Type 0
+abbrev pub ExplainsDescription : TownshipPlat → List ℕ → List ℕ → List ℕ → TownshipAnswer → Type 0
 ExplainsDescription given description old new = OnPlat given (λ plat.
     Answers (IsOfArea plat description old new)
     (IsExplainedDescription STANDARD_LOTS plat.township description old new))
 
 -- `township_explain_list`: of a list that has an account on the plat, there may be a note
-pub record IsOfAccount (plat : TownshipPlat) (list old new : List ℕ) (answer : TownshipAnswer)
+pub record IsOfAccount (plat : SurveyPlat) (list old new : List ℕ) (answer : TownshipAnswer)
     : Type 0 where
   pub text : List ℕ
   pub has : IsAccountOf plat list text
   pub is_noted : IsListNoted old new answer
 
-pub record IsExplainedFault (plat : TownshipPlat) (list old new : List ℕ) (answer : TownshipAnswer)
+pub record IsExplainedFault (plat : SurveyPlat) (list old new : List ℕ) (answer : TownshipAnswer)
     : Type 0 where
   pub fault : TractFault
   pub first : IsFirstTractFault STANDARD_LOTS plat.township list fault
@@ -154,6 +154,6 @@ pub record IsExplainedFault (plat : TownshipPlat) (list old new : List ℕ) (ans
   pub verdict_is : verdict_of fault ≡ Some verdict
   pub explained : IsExplained (IsOfFirstFault plat list) (verdict_answer verdict) old new answer
 
-abbrev pub ExplainsList : GivenPlat → List ℕ → List ℕ → List ℕ → TownshipAnswer → Type 0
+abbrev pub ExplainsList : TownshipPlat → List ℕ → List ℕ → List ℕ → TownshipAnswer → Type 0
 ExplainsList given list old new = OnPlat given (λ plat.
     Answers (IsOfAccount plat list old new) (IsExplainedFault plat list old new))

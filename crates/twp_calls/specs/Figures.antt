@@ -2,13 +2,13 @@
 use Rattle.std.specs.Prelude.{◌≡◌, ℕ, ◌+◌, ◌-◌, ◌*◌, ◌≤◌, ◌<◌, slice_index_or}
 use Rattle.twp_grid.specs.Winding.{IsSection}
 use Rattle.twp_grid.specs.Lots.{number_of_lots}
-use Rattle.twp_plat.specs.Plats.{TownshipPlat}
+use Rattle.twp_plat.specs.Plats.{SurveyPlat}
 use Rattle.twp_plat.specs.PlatFigures.{PlatFigures, AreFigures}
 use Rattle.twp_calls.specs.Answers.{ACCEPTED, bare}
 use Rattle.twp_calls.specs.Calls.{OnPlat}
 use Rattle.twp_calls.specs.declared.answer.TownshipAnswer.{TownshipAnswer}
 use Rattle.twp_calls.specs.declared.figures.TownshipPlatFigures.{TownshipPlatFigures}
-use Rattle.twp_calls.specs.declared.plat.TownshipPlat.{TownshipPlat as GivenPlat}
+use Rattle.twp_calls.specs.declared.plat.TownshipPlat.{TownshipPlat}
 
 -- each section has places for seven lots, the most that a section has
 abbrev pub LOTS_MOST : ℕ
@@ -32,16 +32,16 @@ pub record AreNumbersOf (shown : PlatFigures) (figures : TownshipPlatFigures) : 
   pub township : figures.township ≡ shown.township
 
 -- the numbers are the figures that the plat shows
-pub record ShowsFigures (plat : TownshipPlat) (figures : TownshipPlatFigures) : Type 0 where
+pub record ShowsFigures (plat : SurveyPlat) (figures : TownshipPlatFigures) : Type 0 where
   pub shown : PlatFigures
   pub are : AreFigures plat shown
   pub numbers : AreNumbersOf shown figures
 
 -- `township_figures`: the figures that the plat shows, which nothing refuses
-pub record AnswersFigures (plat : TownshipPlat) (new : TownshipPlatFigures) (answer : TownshipAnswer)
+pub record AnswersFigures (plat : SurveyPlat) (new : TownshipPlatFigures) (answer : TownshipAnswer)
     : Type 0 where
   pub shows : ShowsFigures plat new
   pub answer_is : answer ≡ bare ACCEPTED
 
-abbrev pub IsFiguresCall : GivenPlat → TownshipPlatFigures → TownshipAnswer → Type 0
+abbrev pub IsFiguresCall : TownshipPlat → TownshipPlatFigures → TownshipAnswer → Type 0
 IsFiguresCall given new = OnPlat given (λ plat. AnswersFigures plat new)

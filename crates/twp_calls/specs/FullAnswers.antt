@@ -7,7 +7,7 @@ use Rattle.twp_calls.specs.Calls.{IsAcresCall, IsNormalCall}
 use Rattle.twp_calls.specs.Explanations.{ExplainsDescription}
 use Rattle.twp_calls.specs.ManyAnswers.{IsBasisVerdict, IsRange, ReturnedVerdict, count_between}
 use Rattle.twp_calls.specs.declared.answer.TownshipAnswer.{TownshipAnswer}
-use Rattle.twp_calls.specs.declared.plat.TownshipPlat.{TownshipPlat as GivenPlat}
+use Rattle.twp_calls.specs.declared.plat.TownshipPlat.{TownshipPlat}
 use Rattle.twp_calls.specs.declared.full_answer.TownshipFullAnswer.{TownshipFullAnswer}
 
 -- What the calls for one description answer: its acres; its canonical text, which is put over an old one; and
@@ -20,7 +20,7 @@ pub record DescriptionCalls : Type 1 where
 
 -- `township_acres`, `township_normal`, and `township_explain_description`; and the verdict on the plat and
 -- the account
-abbrev pub calls_on : GivenPlat → ℕ → DescriptionCalls
+abbrev pub calls_on : TownshipPlat → ℕ → DescriptionCalls
 calls_on given code = record {
   acres = λ description. IsAcresCall given description code;
   normal = λ description. IsNormalCall given description;
@@ -89,6 +89,6 @@ pub data IsFullAnswer (calls : DescriptionCalls) (bytes offsets : List ℕ)
       → IsFullAnswer calls bytes offsets old new answer
 
 -- `township_answer_many`: each is answered, even if the plat or the account is not valid
-abbrev pub IsFullCall : GivenPlat → List ℕ → List ℕ → ℕ → List TownshipFullAnswer → List TownshipFullAnswer
+abbrev pub IsFullCall : TownshipPlat → List ℕ → List ℕ → ℕ → List TownshipFullAnswer → List TownshipFullAnswer
     → TownshipAnswer → Type 0
 IsFullCall given bytes offsets code old new = IsFullAnswer (calls_on given code) bytes offsets old new

@@ -1,12 +1,12 @@
 -- Plats as plain data, which may be a plat's parts or not.
 use Rattle.std.specs.Prelude.{◌≡◌}
-use Rattle.twp_plat.specs.Plats.{TownshipPlat, IsPlat}
+use Rattle.twp_plat.specs.Plats.{SurveyPlat, IsPlat}
 use Rattle.twp_calls.specs.GivenTownships.{IsGivenTownship, code_of_north_south, code_of_east_west}
 use Rattle.twp_calls.specs.declared.designation.TownshipDesignation.{TownshipDesignation}
-use Rattle.twp_calls.specs.declared.plat.TownshipPlat.{TownshipPlat as GivenPlat}
+use Rattle.twp_calls.specs.declared.plat.TownshipPlat.{TownshipPlat}
 
 -- the parts of a plat
-abbrev pub given_of : TownshipPlat → GivenPlat
+abbrev pub given_of : SurveyPlat → TownshipPlat
 given_of plat = record {
   closing_quarters = plat.closing_quarters;
   number = plat.township.number;
@@ -16,7 +16,7 @@ given_of plat = record {
 }
 
 -- the designation among the parts of a plat
-abbrev pub designation_in : GivenPlat → TownshipDesignation
+abbrev pub designation_in : TownshipPlat → TownshipDesignation
 designation_in given = record {
   number = given.number;
   north_south = given.north_south;
@@ -25,11 +25,11 @@ designation_in given = record {
 }
 
 -- the plat whose parts are given
-pub record IsGivenPlat (given : GivenPlat) (plat : TownshipPlat) : Type 0 where
+pub record IsGivenPlat (given : TownshipPlat) (plat : SurveyPlat) : Type 0 where
   pub township : IsGivenTownship (designation_in given) plat.township
   pub closing : plat.closing_quarters ≡ given.closing_quarters
   pub is : IsPlat plat
 
 -- no plat's parts are given
-abbrev pub IsNoGivenPlat : GivenPlat → Type 0
-IsNoGivenPlat given = (plat : TownshipPlat) → ¬ IsGivenPlat given plat
+abbrev pub IsNoGivenPlat : TownshipPlat → Type 0
+IsNoGivenPlat given = (plat : SurveyPlat) → ¬ IsGivenPlat given plat

@@ -8,7 +8,7 @@ use Rattle.twp_land.specs.Comparisons.{Compares}
 use Rattle.twp_land.specs.declared.comparing.Comparison.{Comparison}
 use Rattle.twp_land.specs.declared.comparing.Comparison.TheVariants.{Same, Contains, IsContained}
 use Rattle.twp_land.specs.declared.comparing.Comparison.TheVariants.{Overlaps, Disjoint}
-use Rattle.twp_plat.specs.Plats.{TownshipPlat}
+use Rattle.twp_plat.specs.Plats.{SurveyPlat}
 use Rattle.twp_plat.specs.PlatAccounts.{IsAreaBy}
 use Rattle.twp_plat.specs.declared.land_area.Account.{Account}
 use Rattle.twp_spell.specs.CanonicalText.{IsCanonicalText}
@@ -27,7 +27,7 @@ use Rattle.twp_calls.specs.declared.combining.Operation.{Operation}
 use Rattle.twp_calls.specs.declared.combining.Operation.TheVariants as operation
 use Rattle.twp_calls.specs.declared.designation.TownshipDesignation.{TownshipDesignation}
 use Rattle.twp_calls.specs.declared.land.TownshipLand.{TownshipLand as GivenLand}
-use Rattle.twp_calls.specs.declared.plat.TownshipPlat.{TownshipPlat as GivenPlat}
+use Rattle.twp_calls.specs.declared.plat.TownshipPlat.{TownshipPlat}
 use Rattle.twp_calls.specs.declared.which_plat.WhichPlat.{WhichPlat}
 
 -- The given parts are those of a township, for which the call answers, or of none.
@@ -77,8 +77,8 @@ abbrev pub HasStandardLots : GivenLand → Type 0
 HasStandardLots land = land.own_lots ≡ 0
 
 -- what a call answers for land on a plat of field notes, which has the standard lots, by an account
-abbrev pub OnPlatAndLand : GivenPlat → GivenLand → ℕ
-    → (TownshipPlat → Account → (ℕ → ℕ → ℕ → Bool) → TownshipAnswer → Type 0)
+abbrev pub OnPlatAndLand : TownshipPlat → GivenLand → ℕ
+    → (SurveyPlat → Account → (ℕ → ℕ → ℕ → Bool) → TownshipAnswer → Type 0)
     → TownshipAnswer → Type 0
 OnPlatAndLand given land code Accepted =
     OnPlat given (λ plat. OnLand land (λ township places. ByAccount code (λ account.
@@ -86,24 +86,24 @@ OnPlatAndLand given land code Accepted =
     (OfOnePlat (HasStandardLots land) (Accepted plat account places)))))
 
 -- `township_land_acres`: the hundredths of an acre of the land
-pub record HasLandAcres (plat : TownshipPlat) (account : Account) (places : ℕ → ℕ → ℕ → Bool)
+pub record HasLandAcres (plat : SurveyPlat) (account : Account) (places : ℕ → ℕ → ℕ → Bool)
     (answer : TownshipAnswer) : Type 0 where
   pub hundredths : ℕ
   pub acres : AreAcresOf plat account places hundredths
   pub answer_is : answer ≡ accepted_acres hundredths
 
-abbrev pub IsLandAcresCall : GivenPlat → GivenLand → ℕ → TownshipAnswer → Type 0
+abbrev pub IsLandAcresCall : TownshipPlat → GivenLand → ℕ → TownshipAnswer → Type 0
 IsLandAcresCall given land code = OnPlatAndLand given land code HasLandAcres
 
 -- `township_land_area`: the parts of the exact area of the land
-pub record HasLandArea (new : TownshipFraction) (plat : TownshipPlat) (account : Account)
+pub record HasLandArea (new : TownshipFraction) (plat : SurveyPlat) (account : Account)
     (places : ℕ → ℕ → ℕ → Bool) (answer : TownshipAnswer) : Type 0 where
   pub area : Fraction
   pub area_is : IsAreaBy account PLACE_DIGITS plat places area
   pub parts : IsFractionOf new area
   pub answer_is : answer ≡ bare ACCEPTED
 
-abbrev pub IsLandAreaCall : GivenPlat → GivenLand → ℕ → TownshipFraction → TownshipAnswer → Type 0
+abbrev pub IsLandAreaCall : TownshipPlat → GivenLand → ℕ → TownshipFraction → TownshipAnswer → Type 0
 IsLandAreaCall given land code new = OnPlatAndLand given land code (HasLandArea new)
 
 -- what a call answers for land on any plat with the standard lots

@@ -1,7 +1,7 @@
 -- What each call by a lot table answers, for all that it can be given.
 use Rattle.std.specs.Prelude.{◌≡◌, ℕ, List}
 use Rattle.twp_measure.specs.Areas.{Fraction, IsRounded}
-use Rattle.twp_plat.specs.LotTexts.{AreLots}
+use Rattle.twp_plat.specs.LotTexts.{IsLotTable}
 use Rattle.twp_grid.specs.Townships.{Designation}
 use Rattle.twp_plat.specs.declared.lots.table.LotTable.{LotTable}
 use Rattle.twp_answers.specs.LotLands.{HasLotAreaOf, HasNoLotAreaOf}
@@ -24,7 +24,7 @@ pub data ByLots (given : GivenLots) (Answers : Designation → TownshipAnswer �
 -- `township_lots_read`: the parts of the lot table in the bytes
 pub record AreLotsRead (bytes : List ℕ) (new : GivenLots) (answer : TownshipAnswer) : Type 0 where
   pub table : LotTable
-  pub lots : AreLots bytes table
+  pub lots : IsLotTable bytes table
   pub parts : new ≡ given_lots table
   pub answer_is : answer ≡ bare ACCEPTED
 

@@ -5,7 +5,7 @@ use Rattle.twp_grid.specs.Lands.{HasLot}
 use Rattle.twp_grid.specs.Townships.{Designation}
 use Rattle.twp_grid.specs.Winding.{IsSection}
 use Rattle.twp_grid.specs.declared.refusal.Refusal.{Refusal}
-use Rattle.twp_plat.specs.LotTexts.{AreLots}
+use Rattle.twp_plat.specs.LotTexts.{IsLotTable}
 use Rattle.twp_plat.specs.LotTables.{figure_of, lots_of}
 use Rattle.twp_plat.specs.declared.lots.returned.ReturnedLots.{ReturnedLots}
 use Rattle.twp_plat.specs.declared.lots.table.LotTable.{LotTable}
@@ -20,13 +20,13 @@ use Rattle.twp_calls.specs.declared.answer.TownshipAnswer.{TownshipAnswer}
 use Rattle.twp_calls.specs.declared.lots.TownshipLots.{TownshipLots as GivenLots}
 
 -- `township_explain_lots`: of bytes that are a lot table nothing is explained
-pub record IsOfLots (bytes : List ℕ) (answer : TownshipAnswer) : Type 0 where
+pub record IsOfLotTable (bytes : List ℕ) (answer : TownshipAnswer) : Type 0 where
   pub table : LotTable
-  pub lots : AreLots bytes table
+  pub lots : IsLotTable bytes table
   pub answer_is : answer ≡ bare ACCEPTED
 
 abbrev pub ExplainsLots : List ℕ → List ℕ → List ℕ → TownshipAnswer → Type 0
-ExplainsLots bytes old new = Answers (IsOfLots bytes) (IsExplainedRefusal (AreNoLots bytes) old new)
+ExplainsLots bytes old new = Answers (IsOfLotTable bytes) (IsExplainedRefusal (AreNoLots bytes) old new)
 
 -- the place is that of this lot of the plat, for which no figure is returned
 pub record IsLackingAt (lots : ReturnedLots) (at section lot : ℕ) : Type 0 where

@@ -54,10 +54,10 @@ pub record IsReportShortOfRoom (township : Designation) (lots : ReturnedLots) (l
   pub answer_is : answer ≡ without_room (accepted_acres total) (tract_count list)
 
 -- the list has an account by the table, which was written, or for which there is no room
-abbrev pub HasAccountByLots : Designation → ReturnedLots → List ℕ → List TownshipTract → List TownshipTract
+abbrev pub PutsAccountByLots : Designation → ReturnedLots → List ℕ → List TownshipTract → List TownshipTract
     → TownshipAnswer
     → Type 0
-HasAccountByLots township lots list old new answer =
+PutsAccountByLots township lots list old new answer =
     AreTractsPut township lots list old new answer ⊎ IsReportShortOfRoom township lots list old answer
 
 -- the answer is the verdict on the first fault of the list by the table
@@ -73,5 +73,5 @@ pub record IsListRefusedByLots (township : Designation) (lots : ReturnedLots) (l
 abbrev pub IsLotsReportCall : GivenLots → List ℕ → List TownshipTract → List TownshipTract → TownshipAnswer
     → Type 0
 IsLotsReportCall given list old new = ByLots given (λ township.
-    Answers (HasAccountByLots township given.lots list old new)
+    Answers (PutsAccountByLots township given.lots list old new)
     (IsListRefusedByLots township given.lots list))

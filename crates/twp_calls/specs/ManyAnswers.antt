@@ -4,7 +4,7 @@ use Rattle.std.specs.List.{SameFrom}
 use Rattle.twp_calls.specs.Answers.{ACCEPTED, NO_RANGE, NO_ROOM, bare, with_text}
 use Rattle.twp_calls.specs.Calls.{ByAccount, IsAcresCall, OnPlat}
 use Rattle.twp_calls.specs.declared.answer.TownshipAnswer.{TownshipAnswer}
-use Rattle.twp_calls.specs.declared.plat.TownshipPlat.{TownshipPlat as GivenPlat}
+use Rattle.twp_calls.specs.declared.plat.TownshipPlat.{TownshipPlat}
 
 -- there are bytes from one offset to the other
 abbrev pub IsRange : List ℕ → ℕ → ℕ → Type 0
@@ -29,7 +29,7 @@ abbrev pub ReturnedVerdict : Type 1
 ReturnedVerdict = TownshipAnswer → Type 0
 
 -- the verdict on a plat and an account: both are valid, or it is the verdict on the first that is not
-abbrev pub IsBasisVerdict : GivenPlat → ℕ → ReturnedVerdict
+abbrev pub IsBasisVerdict : TownshipPlat → ℕ → ReturnedVerdict
 IsBasisVerdict given code = OnPlat given (λ plat. ByAccount code (λ account answer. answer ≡ bare ACCEPTED))
 
 -- the number of descriptions between offsets
@@ -66,7 +66,7 @@ pub data IsManyAnswer (Call : DescriptionCall) (Returns : ReturnedVerdict) (byte
 
 -- `township_acres_many`: each is answered as by `township_acres`, even if the plat or the account is not
 -- valid
-abbrev pub IsManyCall : GivenPlat → List ℕ → List ℕ → ℕ → List TownshipAnswer → List TownshipAnswer
+abbrev pub IsManyCall : TownshipPlat → List ℕ → List ℕ → ℕ → List TownshipAnswer → List TownshipAnswer
     → TownshipAnswer → Type 0
 IsManyCall given bytes offsets code old new =
     IsManyAnswer (λ description. IsAcresCall given description code) (IsBasisVerdict given code) bytes offsets

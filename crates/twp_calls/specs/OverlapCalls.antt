@@ -1,7 +1,7 @@
 -- Which tracts of a list overlap.
 use Rattle.std.specs.Prelude.{◌≡◌, ℕ, ◌<◌, ◌≤◌, List, length, map, take}
 use Rattle.std.specs.List.{SameFrom}
-use Rattle.twp_plat.specs.Plats.{TownshipPlat}
+use Rattle.twp_plat.specs.Plats.{SurveyPlat}
 use Rattle.twp_answers.specs.EachTract.{IsListOfRecords}
 use Rattle.twp_answers.specs.Overlaps.{AreOverlaps, measure_of_plat}
 use Rattle.twp_answers.specs.Tracts.{tract_records}
@@ -11,7 +11,7 @@ use Rattle.twp_calls.specs.Calls.{Answers, OnPlat}
 use Rattle.twp_calls.specs.EachCalls.{IsWholeListRefused}
 use Rattle.twp_calls.specs.declared.answer.TownshipAnswer.{TownshipAnswer}
 use Rattle.twp_calls.specs.declared.overlaps_call.TownshipOverlap.{TownshipOverlap}
-use Rattle.twp_calls.specs.declared.plat.TownshipPlat.{TownshipPlat as GivenPlat}
+use Rattle.twp_calls.specs.declared.plat.TownshipPlat.{TownshipPlat}
 
 -- the overlap that plain data stands for
 abbrev pub overlap_of : TownshipOverlap → TractOverlap ℕ
@@ -28,7 +28,7 @@ pub data AreOverlapsPut (overlaps : List (TractOverlap ℕ)) (old new : List Tow
       → AreOverlapsPut overlaps old new answer
 
 -- the list consists of a heading and records, and the overlaps of its tracts were put there
-pub record HasOverlaps (plat : TownshipPlat) (list : List ℕ) (old new : List TownshipOverlap)
+pub record HasOverlaps (plat : SurveyPlat) (list : List ℕ) (old new : List TownshipOverlap)
     (answer : TownshipAnswer) : Type 0 where
   pub list_is : IsListOfRecords list
   pub overlaps : List (TractOverlap ℕ)
@@ -36,7 +36,7 @@ pub record HasOverlaps (plat : TownshipPlat) (list : List ℕ) (old new : List T
   pub put : AreOverlapsPut overlaps old new answer
 
 -- `township_overlaps`: each pair of tracts of the list that overlap
-abbrev pub IsOverlapsCall : GivenPlat → List ℕ → List TownshipOverlap → List TownshipOverlap
+abbrev pub IsOverlapsCall : TownshipPlat → List ℕ → List TownshipOverlap → List TownshipOverlap
     → TownshipAnswer → Type 0
 IsOverlapsCall given list old new = OnPlat given (λ plat.
     Answers (HasOverlaps plat list old new) (IsWholeListRefused list))

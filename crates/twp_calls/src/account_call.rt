@@ -1,7 +1,7 @@
 //! The account of a list of tracts, as numbers.
 ghost use Rattle.std.specs.Prelude.{◌≡◌, ◌≢◌, ◌≤◌, ◌++◌, List, ℕ, length, take};
 ghost use Rattle.std.specs.List.{All, SameFrom, flat_map};
-ghost use Rattle.twp_plat.specs.Plats.{TownshipPlat as PlatMade};
+ghost use Rattle.twp_plat.specs.Plats.{SurveyPlat};
 ghost use Rattle.twp_answers.specs.AccountFigures.{line_of as figure_line};
 ghost use Rattle.twp_answers.specs.ReportAnswers.{IsAccountOf, total_lines};
 ghost use Rattle.twp_calls.specs.Accounts.{AnswersAccount, HasEndedName, IsAccountCall, line_of};
@@ -74,7 +74,7 @@ fn put_figures(
     tracts: &mut [TownshipTract],
     totals: &mut TownshipTotals,
 ) -> TownshipAnswer
-    ensures has { (plat : PlatMade) (list : List ℕ)
+    ensures has { (plat : SurveyPlat) (list : List ℕ)
         → IsAccountOf plat list
         (flat_map figure_line figures.now ++ total_lines made.total made.remaining)
         → length figures.now ≡ tract_count list

@@ -3,7 +3,7 @@ ghost use Rattle.std.specs.Prelude.{ℕ};
 ghost use Rattle.twp_calls.specs.Answers.{bare};
 ghost use Rattle.twp_calls.specs.Calls.{IsAcresCall};
 ghost use Rattle.twp_calls.specs.ManyAnswers.{IsBasisVerdict};
-ghost use Rattle.twp_calls.specs.declared.plat.TownshipPlat.{TownshipPlat as GivenPlat};
+ghost use Rattle.twp_calls.specs.declared.plat.TownshipPlat.{TownshipPlat};
 ghost use Rattle.twp_calls.specs.steps.BasisSteps.{IsBasis};
 
 use crate::account::account_of;
@@ -39,7 +39,7 @@ impl Basis {
 
     /// The verdict on them.
     pub(crate) fn verdict(&self) -> u32
-        ensures { (given : GivenPlat) (code : ℕ) → IsBasis given code self.now
+        ensures { (given : TownshipPlat) (code : ℕ) → IsBasis given code self.now
             → IsBasisVerdict given code (bare result) }
     {
         match self {
@@ -50,7 +50,7 @@ impl Basis {
 
     /// What `township_acres` answers about a description.
     pub(crate) fn acres(&self, alloc: Global, description: &[u8]) -> TownshipAnswer
-        ensures { (given : GivenPlat) (code : ℕ) → IsBasis given code self.now
+        ensures { (given : TownshipPlat) (code : ℕ) → IsBasis given code self.now
             → IsAcresCall given description.now code result }
     {
         let (plat, account) = match self {

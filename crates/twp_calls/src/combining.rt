@@ -75,7 +75,8 @@ pub fn township_land_combine(
     if !is_same_township(township, other) {
         return TownshipAnswer::bare(OTHER_TOWNSHIP);
     }
-    if !first.plat().is_same(second.plat()) {
+    let plat = first.plat();
+    if !plat.is_same(second.plat()) {
         return TownshipAnswer::bare(OTHER_PLAT);
     }
     operation.write(&first.rows, &second.rows, &mut land.rows);
@@ -122,6 +123,17 @@ fn compared_places(first: &TownshipLand, second: &TownshipLand) -> Option<Compar
     if first.own_lots == 0 && second.own_lots == 0 {
         return compare_rows(&first.rows, &second.rows);
     }
+    compared_in_lanes(first, second)
+}
+
+/// The same, of land on plats with any lots. Inlined, it would take room on the stack for its sets of places
+/// in each call.
+#[inline(never)]
+fn compared_in_lanes(first: &TownshipLand, second: &TownshipLand) -> Option<Comparison>
+    ensures { MatchOption result (¬ (AreLotsValid first.now × AreLotsValid second.now))
+        (λ comparison. AreLotsValid first.now × AreLotsValid second.now
+        × Compares comparison (land_of_rows first.now.rows) (land_of_rows second.now.rows)) }
+{
     if !first.are_lots_valid() || !second.are_lots_valid() {
         return None;
     }

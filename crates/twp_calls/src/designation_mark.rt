@@ -7,6 +7,7 @@ ghost use Rattle.twp_calls.specs.DesignationTexts.{higher_numbers};
 
 use twp_grammar::{Kind, Token};
 use twp_grid::{EastWest, NorthSouth};
+use twp_rules::are_same;
 
 /// What a token is in a township's name.
 #[derive(Clone, Copy, PartialEq, Eq)]
@@ -80,9 +81,9 @@ fn of_digits(digits: usize, value: u16) -> DesignationMark
 fn of_byte(text: &[u8]) -> DesignationMark
     ensures { result ≡ mark_of_byte text.now }
 {
-    if is_text(text, b"-") {
+    if are_same(text, b"-") {
         DesignationMark::Hyphen
-    } else if is_text(text, b"/") {
+    } else if are_same(text, b"/") {
         DesignationMark::Slash
     } else {
         DesignationMark::Other
@@ -241,12 +242,4 @@ fn is_word(text: &[u8], word: &[u8]) -> bool
     ensures { result ≡ same_bytes (str_to_ascii_lowercase text.now) word.now }
 {
     text.eq_ignore_ascii_case(word)
-}
-
-/// Whether a text is the given one.
-#[tactic(auto, using(twp_grammar::proofs::WordFacts::is_same))]
-fn is_text(text: &[u8], other: &[u8]) -> bool
-    ensures { result ≡ same_bytes text.now other.now }
-{
-    text == other
 }

@@ -4,7 +4,7 @@ ghost use Rattle.twp_grid.specs.Townships.{Designation};
 ghost use Rattle.twp_plat.specs.declared.lots.returned.ReturnedLots.{ReturnedLots};
 ghost use Rattle.twp_answers.specs.LotAccounts.{IsAccountByLots};
 ghost use Rattle.twp_calls.specs.Answers.{ACCEPTED, answer};
-ghost use Rattle.twp_calls.specs.LotReports.{HasAccountByLots, IsLotsReportCall};
+ghost use Rattle.twp_calls.specs.LotReports.{PutsAccountByLots, IsLotsReportCall};
 
 use crate::account_call::{TownshipTract, put_tracts};
 use crate::answer::TownshipAnswer;
@@ -38,7 +38,7 @@ pub fn township_lots_report(
 fn put_account(figures: &[TractFigure], total: u64, tracts: &mut [TownshipTract]) -> TownshipAnswer
     ensures has { (township : Designation) (lots : ReturnedLots) (list : List ℕ)
         → IsAccountByLots township lots list figures.now total
-        → HasAccountByLots township lots list tracts.old tracts.new result }
+        → PutsAccountByLots township lots list tracts.old tracts.new result }
     ensures kept { result.verdict ≢ ACCEPTED → tracts.new ≡ tracts.old }
 {
     let count = figures.len();

@@ -3,7 +3,7 @@ ghost use Rattle.std.specs.Prelude.{◌≡◌, ℕ};
 ghost use Rattle.twp_calls.specs.Answers.{NO_ROOM, bare, with_text};
 ghost use Rattle.twp_calls.specs.Calls.{IsAcresCall};
 ghost use Rattle.twp_calls.specs.ManyAnswers.{IsAnswerBetween, IsManyCall};
-ghost use Rattle.twp_calls.specs.declared.plat.TownshipPlat.{TownshipPlat as GivenPlat};
+ghost use Rattle.twp_calls.specs.declared.plat.TownshipPlat.{TownshipPlat};
 ghost use Rattle.twp_calls.specs.steps.BasisSteps.{IsBasis};
 
 use crate::answer::TownshipAnswer;
@@ -57,7 +57,7 @@ fn answer_between(
     start: usize,
     end: usize,
 ) -> TownshipAnswer
-    ensures { (given : GivenPlat) (code : ℕ) → IsBasis given code basis.now
+    ensures { (given : TownshipPlat) (code : ℕ) → IsBasis given code basis.now
         → IsAnswerBetween (λ text. IsAcresCall given text code) descriptions.now start end
         result }
 {

@@ -1,7 +1,7 @@
 -- What an answer says of the descriptions that it is for, over plain values.
 use Rattle.std.proofs.Common.{◌≡◌, ℕ, List, Option, Some, Result, Ok, Err, subst, ◌∙◌}
 use Rattle.std.specs.Prelude.{IfOk}
-use Rattle.twp_plat.specs.Plats.{TownshipPlat}
+use Rattle.twp_plat.specs.Plats.{SurveyPlat}
 use Rattle.twp_read.specs.Doubts.{HasNoDoubtfulPlace}
 use Rattle.twp_read.specs.declared.doubt.Clarity.{Clarity}
 use Rattle.twp_read.specs.declared.doubt.Clarity.TheVariants.{Clear, Unclear}
@@ -33,7 +33,7 @@ says_the_same (Err fault) clarity Holds is holds = tt
 
 -- what it says of the bytes that were read, it says of the known ones
 pub says_of_two : (first second : Option (List ℕ)) (GoesOn : List ℕ → Type 0) (unread : Type 0)
-    (plat : TownshipPlat) (description : List ℕ) (r : Result Answer RunFault)
+    (plat : SurveyPlat) (description : List ℕ) (r : Result Answer RunFault)
     → ReadsTwo first second GoesOn unread (λ n d. ArePlatted n plat × (description ≡ d))
     → IfOk r (λ answer. answer.clarity ≡ Clear → HasNoDoubtfulPlace description)
     → IfOk r (λ answer. (d : List ℕ) → second ≡ Some d → answer.clarity ≡ Clear → HasNoDoubtfulPlace d)

@@ -6,7 +6,7 @@ use Rattle.twp_measure.specs.Areas.{Fraction, IsRounded}
 use Rattle.twp_grid.specs.Places.{PLACE_DIGITS}
 use Rattle.twp_grid.specs.Townships.{Designation}
 use Rattle.twp_grid.specs.declared.refusal.Refusal.{Refusal}
-use Rattle.twp_plat.specs.Plats.{TownshipPlat}
+use Rattle.twp_plat.specs.Plats.{SurveyPlat}
 use Rattle.twp_plat.specs.PlatAccounts.{IsAreaBy}
 use Rattle.twp_plat.specs.declared.land_area.Account.{Account}
 use Rattle.twp_plat.specs.declared.land_area.Account.TheVariants.{Exact, Plat}
@@ -55,7 +55,7 @@ stop_refused Answers township d (stop.Failed fault) (Ok answer) is answers refus
 stop_refused Answers township d (stop.Failed fault) (Err answered) is answers refused = tt
 
 -- the answer that accepts has the acres of the area that was found
-pub area_accepted : (account : Account) (plat : TownshipPlat) (d : List ℕ) (area : Fraction) (h : ℕ)
+pub area_accepted : (account : Account) (plat : SurveyPlat) (d : List ℕ) (area : Fraction) (h : ℕ)
     (r : Result Answer RunFault)
     → HasAreaOn plat d account area → IsRounded area h
     → IfOk r (λ answer. (answer.text.items ≡ acres_line h) × (answer.verdict ≡ verdict.Accepted))
@@ -65,11 +65,11 @@ area_accepted account plat d area h (Ok answer) found rounded is =
 area_accepted account plat d area h (Err fault) found rounded is = tt
 
 -- land on the plat of the notes
-abbrev land_on : (notes d : List ℕ) (plat : TownshipPlat) (places : ℕ → ℕ → ℕ → Bool)
+abbrev land_on : (notes d : List ℕ) (plat : SurveyPlat) (places : ℕ → ℕ → ℕ → Bool)
     → ArePlatted notes plat → Describe STANDARD_LOTS plat.township d places → IsLandOnPlat notes d plat places
 land_on notes d plat places platted described = record { platted = platted; described = described }
 
-pub acres_of_notes : (account : Account) (notes d : List ℕ) (plat : TownshipPlat) (h : ℕ)
+pub acres_of_notes : (account : Account) (notes d : List ℕ) (plat : SurveyPlat) (h : ℕ)
     → ArePlatted notes plat → HasAcresOn plat d account h → HasAcresBy account notes d h
 acres_of_notes Exact notes d plat h platted has = record {
   plat = plat;
@@ -84,7 +84,7 @@ acres_of_notes Plat notes d plat h platted has = record {
   acres = record { area = has.area; area_is = has.area_is.area_is; rounded = has.rounded };
 }
 
-acres_on_plat : (account : Account) (notes d : List ℕ) (plat : TownshipPlat) (h : ℕ)
+acres_on_plat : (account : Account) (notes d : List ℕ) (plat : SurveyPlat) (h : ℕ)
     → ArePlatted notes plat → HasAcresBy account notes d h → HasAcresOn plat d account h
 acres_on_plat Exact notes d plat h platted has =
     subst (λ p. HasAcresOn p d Exact h) (one_plat notes has.plat plat has.land.platted platted) (record {
@@ -113,7 +113,7 @@ acres_on_are_of_notes notes d plat account h platted = (
   (λ has. acres_on_plat account notes d plat h platted has),
 )
 
-pub normal_of_notes : (notes d text : List ℕ) (plat : TownshipPlat) → ArePlatted notes plat
+pub normal_of_notes : (notes d text : List ℕ) (plat : SurveyPlat) → ArePlatted notes plat
     → HasNormalOn plat d text → IsNormalForm notes d text
 normal_of_notes notes d text plat platted has = record {
   plat = plat;
@@ -122,7 +122,7 @@ normal_of_notes notes d text plat platted has = record {
   text_is = has.text_is;
 }
 
-normal_on_plat : (notes d text : List ℕ) (plat : TownshipPlat) → ArePlatted notes plat
+normal_on_plat : (notes d text : List ℕ) (plat : SurveyPlat) → ArePlatted notes plat
     → IsNormalForm notes d text → HasNormalOn plat d text
 normal_on_plat notes d text plat platted form =
     subst (λ p. HasNormalOn p d text) (one_plat notes form.plat plat form.land.platted platted) (record {
@@ -137,12 +137,12 @@ normal_on_is_of_notes notes d text plat platted = (
   (λ form. normal_on_plat notes d text plat platted form),
 )
 
-pub text_of_notes : (notes text : List ℕ) (plat : TownshipPlat) → ArePlatted notes plat
+pub text_of_notes : (notes text : List ℕ) (plat : SurveyPlat) → ArePlatted notes plat
     → IsTextOfPlat plat text → IsPrintedPlat notes text
 text_of_notes notes text plat platted is =
     record { plat = plat; platted = platted; figures = is.figures; are = is.are; text_is = is.text_is }
 
-text_of_plat : (notes text : List ℕ) (plat : TownshipPlat) → ArePlatted notes plat
+text_of_plat : (notes text : List ℕ) (plat : SurveyPlat) → ArePlatted notes plat
     → IsPrintedPlat notes text → IsTextOfPlat plat text
 text_of_plat notes text plat platted is =
     subst (λ p. IsTextOfPlat p text) (one_plat notes is.plat plat is.platted platted)
@@ -152,17 +152,17 @@ pub text_of_plat_is_of_notes : TextOfPlatIsOfNotes
 text_of_plat_is_of_notes notes text plat platted =
     ((λ is. text_of_notes notes text plat platted is), (λ is. text_of_plat notes text plat platted is))
 
-pub refusal_of_notes : (notes d : List ℕ) (plat : TownshipPlat) (refusal : Refusal) → ArePlatted notes plat
+pub refusal_of_notes : (notes d : List ℕ) (plat : SurveyPlat) (refusal : Refusal) → ArePlatted notes plat
     → IsNoDescription STANDARD_LOTS plat.township d refusal → IsRefusal notes d refusal
 refusal_of_notes notes d plat refusal platted is =
     inr (record { plat = plat; platted = platted; refused = is })
 
-refusal_on_plat : (notes d : List ℕ) (plat : TownshipPlat) (refusal : Refusal) → ArePlatted notes plat
+refusal_on_plat : (notes d : List ℕ) (plat : SurveyPlat) (refusal : Refusal) → ArePlatted notes plat
     → IsRefusal notes d refusal → IsNoDescription STANDARD_LOTS plat.township d refusal
 refusal_on_plat notes d plat refusal platted (inl none) =
     absurd (not_platted notes refusal plat none platted)
 refusal_on_plat notes d plat refusal platted (inr is) =
-    subst (λ (p : TownshipPlat). IsNoDescription STANDARD_LOTS p.township d refusal)
+    subst (λ (p : SurveyPlat). IsNoDescription STANDARD_LOTS p.township d refusal)
     (one_plat notes is.plat plat is.platted platted) is.refused
 
 pub refusal_on_is_of_notes : RefusalOnIsOfNotes
@@ -175,7 +175,7 @@ pub answered_or_refused_on : AnsweredOrRefusedOn
 answered_or_refused_on d plat account area refusal has is =
     not_described STANDARD_LOTS plat.township d refusal has.places is has.described
 
-one_area_by : (account : Account) (plat : TownshipPlat) (places : ℕ → ℕ → ℕ → Bool) (area area' : Fraction)
+one_area_by : (account : Account) (plat : SurveyPlat) (places : ℕ → ℕ → ℕ → Bool) (area area' : Fraction)
     → IsAreaBy account PLACE_DIGITS plat places area → IsAreaBy account PLACE_DIGITS plat places area'
     → area ≡ area'
 one_area_by Exact plat places area area' is is' =
@@ -190,7 +190,7 @@ one_area_on d plat account area area' has has' =
     (subst (λ p. IsAreaBy account PLACE_DIGITS plat p area) same has.area_is) has'.area_is
 
 -- the answers on the plat of the notes are those for the notes and the description
-pub acres_answered : (account : Account) (notes d : List ℕ) (plat : TownshipPlat) (answer : List ℕ)
+pub acres_answered : (account : Account) (notes d : List ℕ) (plat : SurveyPlat) (answer : List ℕ)
     (v : Verdict)
     → ArePlatted notes plat → IsAcresAnswerOn account plat d answer v
     → IsAcresAnswerBy account notes d answer v
@@ -200,7 +200,7 @@ acres_answered account notes d plat answer (verdict.Refused refusal) platted (re
     (refusal_of_notes notes d plat refusal platted refused, is)
 acres_answered account notes d plat answer (verdict.TractRefused at_ inner) platted is = absurd is
 
-pub normal_answered : (notes d : List ℕ) (plat : TownshipPlat) (answer : List ℕ) (v : Verdict)
+pub normal_answered : (notes d : List ℕ) (plat : SurveyPlat) (answer : List ℕ) (v : Verdict)
     → ArePlatted notes plat → IsNormalAnswerOn plat d answer v → IsNormalAnswer notes d answer v
 normal_answered notes d plat answer verdict.Accepted platted has =
     normal_of_notes notes d answer plat platted has
@@ -210,8 +210,8 @@ normal_answered notes d plat answer (verdict.TractRefused at_ inner) platted is 
 
 -- so the answer for the texts that were read is that for the two texts
 pub answered_of_two : (first second : Option (List ℕ)) (GoesOn : List ℕ → Type 0) (unread : Type 0)
-    (On : TownshipPlat → List ℕ → AnswerRelation) (Answers : List ℕ → List ℕ → AnswerRelation)
-    (plat : TownshipPlat) (description : List ℕ) (r : Result Answer RunFault)
+    (On : SurveyPlat → List ℕ → AnswerRelation) (Answers : List ℕ → List ℕ → AnswerRelation)
+    (plat : SurveyPlat) (description : List ℕ) (r : Result Answer RunFault)
     → ((n d : List ℕ) (a : List ℕ) (v : Verdict) → ArePlatted n plat → On plat d a v → Answers n d a v)
     → ReadsTwo first second GoesOn unread (λ n d. ArePlatted n plat × (description ≡ d))
     → IfOk r (λ answer. On plat description answer.text.items answer.verdict)

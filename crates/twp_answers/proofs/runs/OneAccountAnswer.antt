@@ -3,7 +3,7 @@ use Rattle.std.proofs.Common.{◌≡◌, ℕ, Bool, List, ap, refl, subst, sym, 
 use Rattle.twp_measure.proofs.RoundingFacts.{one_rounding}
 use Rattle.twp_grid.specs.Places.{PLACE_DIGITS}
 use Rattle.twp_grid.specs.declared.refusal.Refusal.{Refusal}
-use Rattle.twp_plat.specs.Plats.{TownshipPlat}
+use Rattle.twp_plat.specs.Plats.{SurveyPlat}
 use Rattle.twp_answers.specs.AccountAnswers.{ArePlatHundredthsOf, HasAcresBy, HasPlatAcres}
 use Rattle.twp_answers.specs.AccountAnswers.{IsAcresAnswerBy}
 use Rattle.twp_answers.specs.Answers.{Describe, IsRefusal}
@@ -18,7 +18,7 @@ use Rattle.twp_plat.proofs.PlatLaws.{one_plat_area}
 use Rattle.twp_grid.specs.Lands.{STANDARD_LOTS}
 
 -- the plat area of land rounds to only one number of hundredths
-one_plat_hundredths : (plat : TownshipPlat) (places : ℕ → ℕ → ℕ → Bool) (h h' : ℕ)
+one_plat_hundredths : (plat : SurveyPlat) (places : ℕ → ℕ → ℕ → Bool) (h h' : ℕ)
     → ArePlatHundredthsOf plat places h → ArePlatHundredthsOf plat places h' → h ≡ h'
 one_plat_hundredths plat places h h' is is' =
     let area : is.area ≡ is'.area =
@@ -32,7 +32,7 @@ one_plat_acres notes d h h' is is' =
     let p : is.plat ≡ is'.plat =
     one_plat notes is.plat is'.plat is.land.platted is'.land.platted in
     let described : Describe STANDARD_LOTS is'.plat.township d is.places =
-    subst (λ (q : TownshipPlat). Describe STANDARD_LOTS q.township d is.places) p is.land.described in
+    subst (λ (q : SurveyPlat). Describe STANDARD_LOTS q.township d is.places) p is.land.described in
     let l : is.places ≡ is'.places =
     one_land STANDARD_LOTS is'.plat.township d is.places is'.places described is'.land.described in
     let on_plat : ArePlatHundredthsOf is'.plat is.places h =

@@ -3,7 +3,7 @@ use Rattle.std.proofs.Common.{◌≡◌, ℕ, Bool, List, refl, ap, subst, sym, 
 use Rattle.twp_measure.proofs.RoundingFacts.{one_rounding}
 use Rattle.twp_grid.specs.Places.{PLACE_DIGITS}
 use Rattle.twp_grid.specs.declared.refusal.Refusal.{Refusal}
-use Rattle.twp_plat.specs.Plats.{TownshipPlat}
+use Rattle.twp_plat.specs.Plats.{SurveyPlat}
 use Rattle.twp_plat.proofs.AreaLaws.{one_land_area}
 use Rattle.twp_answers.specs.Answers.{Describe, IsLandOnPlat, IsNoDescription, IsRefusal}
 use Rattle.twp_answers.specs.Answers.{AreHundredthsOf, HasAcres, IsAcresAnswer}
@@ -14,7 +14,7 @@ use Rattle.twp_answers.specs.Laws.{OneAnswerOfLand}
 use Rattle.twp_grid.specs.Lands.{STANDARD_LOTS}
 
 -- the exact area of land rounds to only one number of hundredths
-pub one_hundredths : (plat : TownshipPlat) (places : ℕ → ℕ → ℕ → Bool) (h h' : ℕ)
+pub one_hundredths : (plat : SurveyPlat) (places : ℕ → ℕ → ℕ → Bool) (h h' : ℕ)
     → AreHundredthsOf plat places h → AreHundredthsOf plat places h' → h ≡ h'
 one_hundredths plat places h h' is is' =
     let area : is.area ≡ is'.area =
@@ -22,12 +22,12 @@ one_hundredths plat places h h' is is' =
     one_rounding is'.area h h' (rw area at is.rounded) is'.rounded
 
 -- two descriptions of the same land have the same acres
-acres_of_land : (notes d : List ℕ) (h : ℕ) (plat : TownshipPlat) (places : ℕ → ℕ → ℕ → Bool)
+acres_of_land : (notes d : List ℕ) (h : ℕ) (plat : SurveyPlat) (places : ℕ → ℕ → ℕ → Bool)
     → IsLandOnPlat notes d plat places → HasAcres notes d h → AreHundredthsOf plat places h
 acres_of_land notes d h plat places land is =
     let p : is.plat ≡ plat = one_plat notes is.plat plat is.land.platted land.platted in
     let described : Describe STANDARD_LOTS plat.township d is.places =
-    subst (λ (q : TownshipPlat). Describe STANDARD_LOTS q.township d is.places) p is.land.described in
+    subst (λ (q : SurveyPlat). Describe STANDARD_LOTS q.township d is.places) p is.land.described in
     let l : is.places ≡ places =
     one_land STANDARD_LOTS plat.township d is.places places described land.described in
     subst (λ q. AreHundredthsOf plat q h) l (subst (λ q. AreHundredthsOf q is.places h) p is.acres)
@@ -38,13 +38,13 @@ one_acres notes d h h' is is' =
     is'.acres
 
 -- a refused description names no land
-pub not_land : (notes d : List ℕ) (refusal : Refusal) (plat : TownshipPlat) (places : ℕ → ℕ → ℕ → Bool)
+pub not_land : (notes d : List ℕ) (refusal : Refusal) (plat : SurveyPlat) (places : ℕ → ℕ → ℕ → Bool)
     → IsRefusal notes d refusal → IsLandOnPlat notes d plat places → ⊥
 not_land notes d refusal plat places (inl none) land = not_platted notes refusal plat none land.platted
 not_land notes d refusal plat places (inr is) land =
     let same : is.plat ≡ plat = one_plat notes is.plat plat is.platted land.platted in
     not_described STANDARD_LOTS plat.township d refusal places
-    (subst (λ (p : TownshipPlat). IsNoDescription STANDARD_LOTS p.township d refusal) same is.refused)
+    (subst (λ (p : SurveyPlat). IsNoDescription STANDARD_LOTS p.township d refusal) same is.refused)
     land.described
 
 -- an answer with acres is for land, so nothing in it is refused
@@ -69,7 +69,7 @@ one_answer notes description answer answer' Accepted (TractRefused at_ inner) is
 one_answer notes description answer answer' (Refused r) (TractRefused at_ inner) is is' = absurd is'
 
 -- the answer for land, by its hundredths
-of_land : (notes d d' a a' : List ℕ) (v v' : Verdict) (plat : TownshipPlat) (places : ℕ → ℕ → ℕ → Bool)
+of_land : (notes d d' a a' : List ℕ) (v v' : Verdict) (plat : SurveyPlat) (places : ℕ → ℕ → ℕ → Bool)
     → IsLandOnPlat notes d plat places → IsLandOnPlat notes d' plat places
     → IsAcresAnswer notes d a v → IsAcresAnswer notes d' a' v' → (a ≡ a') × (v ≡ v')
 of_land notes d d' a a' Accepted Accepted plat places land land' (h, acres, is) (h', acres', is') =

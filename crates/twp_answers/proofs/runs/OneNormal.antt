@@ -2,7 +2,7 @@
 -- only one text.
 use Rattle.std.proofs.Common.{◌≡◌, ℕ, List, ap, refl, subst, sym, ◌∙◌}
 use Rattle.twp_grid.specs.declared.refusal.Refusal.{Refusal}
-use Rattle.twp_plat.specs.Plats.{TownshipPlat}
+use Rattle.twp_plat.specs.Plats.{SurveyPlat}
 use Rattle.twp_spell.specs.CanonicalText.{IsCanonicalText}
 use Rattle.twp_spell.proofs.CanonicalFacts.{one_text}
 use Rattle.twp_answers.specs.Answers.{Describe, IsRefusal}
@@ -19,11 +19,11 @@ one_form : (notes d text text' : List ℕ) → IsNormalForm notes d text → IsN
 one_form notes d text text' is is' =
     let p : is.plat ≡ is'.plat = one_plat notes is.plat is'.plat is.land.platted is'.land.platted in
     let described : Describe STANDARD_LOTS is'.plat.township d is.places =
-    subst (λ (q : TownshipPlat). Describe STANDARD_LOTS q.township d is.places) p is.land.described in
+    subst (λ (q : SurveyPlat). Describe STANDARD_LOTS q.township d is.places) p is.land.described in
     let l : is.places ≡ is'.places =
     one_land STANDARD_LOTS is'.plat.township d is.places is'.places described is'.land.described in
     let spelled : IsCanonicalText STANDARD_LOTS is'.plat.township is.places text =
-    subst (λ (q : TownshipPlat). IsCanonicalText STANDARD_LOTS q.township is.places text) p is.text_is in
+    subst (λ (q : SurveyPlat). IsCanonicalText STANDARD_LOTS q.township is.places text) p is.text_is in
     let spelled' : IsCanonicalText STANDARD_LOTS is'.plat.township is'.places text =
     subst (λ q. IsCanonicalText STANDARD_LOTS is'.plat.township q text) l spelled in
     let one = one_text STANDARD_LOTS standard_are_lots is'.plat.township is'.places in

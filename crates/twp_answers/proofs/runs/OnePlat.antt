@@ -7,7 +7,7 @@ use Rattle.twp_grid.specs.Winding.{IsSection}
 use Rattle.twp_grid.specs.Lots.{number_of_lots, position_of_lot}
 use Rattle.twp_grid.proofs.LotFacts.{position_of_lot_is, lot_count_is, count_by_code}
 use Rattle.twp_grid.specs.declared.refusal.Refusal.{Refusal}
-use Rattle.twp_plat.specs.Plats.{TownshipPlat}
+use Rattle.twp_plat.specs.Plats.{SurveyPlat}
 use Rattle.twp_answers.specs.Answers.{IsNoPlat}
 use Rattle.twp_plat.specs.PlatFigures.{PlatFigures, AreFigures}
 use Rattle.twp_answers.specs.PlatAnswers.{texts_to, lot_text, lots_text}
@@ -52,7 +52,7 @@ stands section lot range least most =
     }
 
 -- a lot has only one figure
-one_lot : (plat : TownshipPlat) (figures figures' : PlatFigures) (section lot : ℕ) → AreFigures plat figures
+one_lot : (plat : SurveyPlat) (figures figures' : PlatFigures) (section lot : ℕ) → AreFigures plat figures
     → AreFigures plat figures' → IsSection section
     → 1 ≤ lot → lot ≤ number_of_lots section → figures.lots section lot ≡ figures'.lots section lot
 one_lot plat figures figures' section lot are are' range least most =
@@ -65,7 +65,7 @@ one_lot plat figures figures' section lot are are' range least most =
       figure_is = are.lots section lot at.place.0 at.place.1 range at.there;
     })
 
-one_section : (plat : TownshipPlat) (figures figures' : PlatFigures) (section : ℕ) → AreFigures plat figures
+one_section : (plat : SurveyPlat) (figures figures' : PlatFigures) (section : ℕ) → AreFigures plat figures
     → AreFigures plat figures' → IsSection section
     → figures.sections section ≡ figures'.sections section
 one_section plat figures figures' section are are' range =
@@ -73,7 +73,7 @@ one_section plat figures figures' section are are' range =
     same_section plat section _ _ figure.area range figure.area_is figure.rounded
     (are'.sections section range)
 
-one_line : (plat : TownshipPlat) (figures figures' : PlatFigures) (section : ℕ) → AreFigures plat figures
+one_line : (plat : SurveyPlat) (figures figures' : PlatFigures) (section : ℕ) → AreFigures plat figures
     → AreFigures plat figures' → IsSection section
     → section_line figures section ≡ section_line figures' section
 one_line plat figures figures' section are are' range =
@@ -85,7 +85,7 @@ one_line plat figures figures' section are are' range =
     ∙ ap (λ h. section_name section ++ lots_text figures' section ++ total_text h)
     (one_section plat figures figures' section are are' range)
 
-one_text : (plat : TownshipPlat) (figures figures' : PlatFigures) → AreFigures plat figures
+one_text : (plat : SurveyPlat) (figures figures' : PlatFigures) → AreFigures plat figures
     → AreFigures plat figures' → plat_text figures ≡ plat_text figures'
 one_text plat figures figures' are are' =
     let figure = are.township in

@@ -4,7 +4,7 @@ use Rattle.std.proofs.Common.{sym, ◌∙◌, inl, inr, arith}
 use Rattle.std.proofs.lemmas.List.{ext_get_or}
 use Rattle.twp_grid.specs.Townships.{Designation}
 use Rattle.twp_notes.specs.Records.{Fields, record_at}
-use Rattle.twp_plat.specs.Plats.{TownshipPlat}
+use Rattle.twp_plat.specs.Plats.{SurveyPlat}
 use Rattle.twp_answers.specs.Answers.{IsNoDescription}
 use Rattle.twp_answers.specs.Answers.{AreHundredthsOf}
 use Rattle.twp_answers.specs.Tracts.{tract_records, name_in, description_in, IsTractList}
@@ -26,7 +26,7 @@ use Rattle.twp_answers.proofs.FirstTractFaults.{none_before}
 use Rattle.twp_grid.specs.Lands.{STANDARD_LOTS}
 
 -- a tract has only one line
-one_line : (plat : TownshipPlat) (fields : Fields) (line line' : List ℕ) → IsTractLine plat fields line
+one_line : (plat : SurveyPlat) (fields : Fields) (line line' : List ℕ) → IsTractLine plat fields line
     → IsTractLine plat fields line' → line ≡ line'
 one_line plat fields line line' is is' =
     let land : is.places ≡ is'.places =
@@ -36,7 +36,7 @@ one_line plat fields line line' is is' =
     (subst (λ p. AreHundredthsOf plat p is.hundredths) land is.acres) is'.acres in
     is.line_is ∙ ap (tract_line (name_in fields)) same ∙ sym is'.line_is
 
-one_lines : (plat : TownshipPlat) (rows : List Fields) (lines lines' : List (List ℕ))
+one_lines : (plat : SurveyPlat) (rows : List Fields) (lines lines' : List (List ℕ))
     → AreTractLines plat rows (length rows) lines → AreTractLines plat rows (length rows) lines'
     → lines ≡ lines'
 one_lines plat rows lines lines' are are' =
@@ -46,7 +46,7 @@ one_lines plat rows lines lines' are are' =
     (are.each index within) (are'.each index within))
 
 -- tracts have only one account
-one_account : (plat : TownshipPlat) (rows : List Fields) (text text' : List ℕ) → IsAccount plat rows text
+one_account : (plat : SurveyPlat) (rows : List Fields) (text text' : List ℕ) → IsAccount plat rows text
     → IsAccount plat rows text' → text ≡ text'
 one_account plat rows text text' is is' =
     let lines : is.lines ≡ is'.lines = one_lines plat rows is.lines is'.lines is.lines_are is'.lines_are in
@@ -146,7 +146,7 @@ one_first township bytes one other is is' =
     same_fault township bytes one other is.is is'.is same.at_ same.turn
 
 -- a refused list has only one verdict
-one_list_refusal : (plat : TownshipPlat) (bytes answer answer' : List ℕ) (verdict verdict' : Verdict)
+one_list_refusal : (plat : SurveyPlat) (bytes answer answer' : List ℕ) (verdict verdict' : Verdict)
     → IsListRefused plat bytes answer verdict → IsListRefused plat bytes answer' verdict'
     → (answer ≡ answer') × (verdict ≡ verdict')
 one_list_refusal plat bytes answer answer' verdict verdict' is is' =
@@ -156,12 +156,12 @@ one_list_refusal plat bytes answer answer' verdict verdict' is is' =
     let same : verdict ≡ verdict' = cc both in
     (is.lines_are ∙ ap refusal_lines same ∙ sym is'.lines_are, same)
 
-not_accepted : (plat : TownshipPlat) (bytes answer answer' : List ℕ) (verdict : Verdict)
+not_accepted : (plat : SurveyPlat) (bytes answer answer' : List ℕ) (verdict : Verdict)
     → IsAccountOf plat bytes answer → IsListRefused plat bytes answer' verdict → ⊥
 not_accepted plat bytes answer answer' verdict is refused =
     not_faulty plat.township bytes refused.tract_fault is.list refused.first.is
 
-one_list_answer : (plat : TownshipPlat) (bytes answer answer' : List ℕ) (verdict verdict' : Verdict)
+one_list_answer : (plat : SurveyPlat) (bytes answer answer' : List ℕ) (verdict verdict' : Verdict)
     → AnswersList plat bytes answer verdict → AnswersList plat bytes answer' verdict'
     → (answer ≡ answer') × (verdict ≡ verdict')
 one_list_answer plat bytes answer answer' Accepted Accepted is is' =

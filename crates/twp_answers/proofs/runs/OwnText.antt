@@ -5,7 +5,7 @@ use Rattle.twp_grid.specs.Lands.{no_places}
 use Rattle.twp_grid.specs.Lands.{STANDARD_LOTS}
 use Rattle.twp_grid.specs.Lands.{STANDARD_LAYOUT}
 use Rattle.twp_land.specs.steps.StandardLots.{standard_are_lots}
-use Rattle.twp_plat.specs.Plats.{TownshipPlat}
+use Rattle.twp_plat.specs.Plats.{SurveyPlat}
 use Rattle.twp_read.specs.TextFaults.{TEXT_LIMIT}
 use Rattle.twp_read.specs.declared.fault.TextFault.TheVariants as text_fault
 use Rattle.twp_spell.specs.ReadBack.{IsTownshipLand, HasTownshipNumbers}
@@ -18,7 +18,7 @@ use Rattle.twp_answers.specs.NormalLaws.{too_large}
 use Rattle.twp_answers.specs.declared.stop.Verdict.TheVariants.{Accepted, Refused}
 
 -- the numbers of the township in field notes are valid
-township_numbers : (notes : List ℕ) (plat : TownshipPlat) → ArePlatted notes plat
+township_numbers : (notes : List ℕ) (plat : SurveyPlat) → ArePlatted notes plat
     → HasTownshipNumbers plat.township
 township_numbers notes plat platted =
     let named = platted.notes_are.records_are.township_is in

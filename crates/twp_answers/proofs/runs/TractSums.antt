@@ -7,7 +7,7 @@ use Rattle.twp_grid.specs.Spans.{total}
 use Rattle.twp_grid.proofs.TotalFacts.{total-zero, total-next}
 use Rattle.twp_grid.specs.Lands.{no_places, union}
 use Rattle.twp_notes.specs.Records.{Fields}
-use Rattle.twp_plat.specs.Plats.{TownshipPlat}
+use Rattle.twp_plat.specs.Plats.{SurveyPlat}
 use Rattle.twp_plat.specs.Pieces.{over_of}
 use Rattle.twp_plat.specs.Pieces.{ArePieces}
 use Rattle.twp_plat.specs.LandAreas.{IsLandArea}
@@ -35,12 +35,12 @@ abbrev units_to : (ℕ → Fraction) → ℕ → ℕ
 units_to areas count = total count (λ index. (areas index).units)
 
 -- the land of the first tracts, up to this number, whose area is the sum of theirs
-record IsSummed (plat : TownshipPlat) (rows : List Fields) (areas : ℕ → Fraction) (count : ℕ) : Type 0 where
+record IsSummed (plat : SurveyPlat) (rows : List Fields) (areas : ℕ → Fraction) (count : ℕ) : Type 0 where
   places : ℕ → ℕ → ℕ → Bool
   land : IsLandOfTracts STANDARD_LOTS plat.township rows count places
   area : IsLandArea PLACE_DIGITS plat places (record { units = units_to areas count; over = over_of plat })
 
-module _ (plat : TownshipPlat) (rows : List Fields) (areas : ℕ → Fraction) (pieces : ℕ → ℕ → ℕ → ℕ)
+module _ (plat : SurveyPlat) (rows : List Fields) (areas : ℕ → Fraction) (pieces : ℕ → ℕ → ℕ → ℕ)
     (are : ArePieces plat pieces) where
   none : IsSummed plat rows areas 0
   none = record {

@@ -1,7 +1,7 @@
 -- The steps of the runs: what they read, and their answers on the plat of the notes. No public
 -- contract cites this module.
 use Rattle.std.specs.Prelude.{◌≡◌, ℕ, List, Result, Ok, Err}
-use Rattle.twp_plat.specs.Plats.{TownshipPlat}
+use Rattle.twp_plat.specs.Plats.{SurveyPlat}
 use Rattle.twp_plat.specs.declared.land_area.Account.{Account}
 use Rattle.twp_answers.specs.Answers.{AnswersRefusal, ArePlatted, IsNoDescription, IsNoText}
 use Rattle.twp_answers.specs.Answers.{IsRefusal}
@@ -26,7 +26,7 @@ AreRead notes description (Ok read) =
 AreRead notes description (Err stopped) = IfRefused stopped (IsRefusal notes description)
 
 -- the acres of the land described on the plat, or the refusal
-abbrev pub IsAcresAnswerOn : Account → TownshipPlat → List ℕ → AnswerRelation
+abbrev pub IsAcresAnswerOn : Account → SurveyPlat → List ℕ → AnswerRelation
 IsAcresAnswerOn account plat description answer Accepted =
     (hundredths : ℕ) × HasAcresOn plat description account hundredths
     × (answer ≡ acres_line hundredths)
@@ -35,7 +35,7 @@ IsAcresAnswerOn account plat description answer (Refused refusal) =
 IsAcresAnswerOn account plat description answer (TractRefused at inner) = ⊥
 
 -- the canonical text of the land described on the plat, or the refusal
-abbrev pub IsNormalAnswerOn : TownshipPlat → List ℕ → AnswerRelation
+abbrev pub IsNormalAnswerOn : SurveyPlat → List ℕ → AnswerRelation
 IsNormalAnswerOn plat description answer Accepted = HasNormalOn plat description answer
 IsNormalAnswerOn plat description answer (Refused refusal) =
     AnswersRefusal (IsNoDescription STANDARD_LOTS plat.township description) refusal answer

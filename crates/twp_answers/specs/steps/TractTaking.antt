@@ -6,7 +6,7 @@ use Rattle.twp_measure.specs.Areas.{Fraction}
 use Rattle.twp_grid.specs.Places.{PLACE_DIGITS}
 use Rattle.twp_grid.specs.Townships.{Designation}
 use Rattle.twp_notes.specs.Records.{Fields}
-use Rattle.twp_plat.specs.Plats.{TownshipPlat}
+use Rattle.twp_plat.specs.Plats.{SurveyPlat}
 use Rattle.twp_answers.specs.Answers.{AreHundredthsOf}
 use Rattle.twp_plat.specs.LandAreas.{IsLandArea}
 use Rattle.twp_answers.specs.EarlierTracts.{AreEarlier, TractsSoFar, earlier_of, TakesLand}
@@ -35,7 +35,7 @@ tally_of places account = record {
 }
 
 -- the figures are the area of these places, and that of all others
-pub record AreTotals (plat : TownshipPlat) (places : ℕ → ℕ → ℕ → Bool) (totals : Totals)
+pub record AreTotals (plat : SurveyPlat) (places : ℕ → ℕ → ℕ → Bool) (totals : Totals)
     : Type 0 where
   pub total_is : IsLandArea PLACE_DIGITS plat places totals.total
   pub remaining_is : IsLandArea PLACE_DIGITS plat (other_places places) totals.remaining
@@ -48,7 +48,7 @@ pub record TakesArea (area : Fraction) (old new : Totals) : Type 0 where
   pub remaining_over : new.remaining.over ≡ old.remaining.over
 
 -- the tally grew by the tract of the record
-pub record TakesTract (plat : TownshipPlat) (fields : Fields) (old new : Tally) : Type 0 where
+pub record TakesTract (plat : SurveyPlat) (fields : Fields) (old new : Tally) : Type 0 where
   pub more : ℕ → ℕ → ℕ → Bool
   pub takes : TakesLand STANDARD_LOTS plat.township fields old.earlier new.earlier more
   pub hundredths : ℕ
@@ -57,7 +57,7 @@ pub record TakesTract (plat : TownshipPlat) (fields : Fields) (old new : Tally) 
   pub text_is : new.text ≡ old.text ++ tract_line (name_in fields) hundredths
 
 -- the tally is that of the first records, up to this number, which are tracts
-pub record IsTallyOf (plat : TownshipPlat) (rows : List Fields) (count : ℕ) (tally : Tally)
+pub record IsTallyOf (plat : SurveyPlat) (rows : List Fields) (count : ℕ) (tally : Tally)
     : Type 0 where
   pub earlier : AreEarlier STANDARD_LOTS plat.township rows count tally.earlier
   pub totals_are : AreTotals plat tally.earlier.places tally.totals
@@ -66,7 +66,7 @@ pub record IsTallyOf (plat : TownshipPlat) (rows : List Fields) (count : ℕ) (t
   pub text_is : tally.text ≡ text_of lines
 
 -- the lines of the figures of all tracts and of all other places were appended
-pub record EndsAccount (plat : TownshipPlat) (places : ℕ → ℕ → ℕ → Bool) (old new : List ℕ)
+pub record EndsAccount (plat : SurveyPlat) (places : ℕ → ℕ → ℕ → Bool) (old new : List ℕ)
     : Type 0 where
   pub total : ℕ
   pub total_is : AreHundredthsOf plat places total

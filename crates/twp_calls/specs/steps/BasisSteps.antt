@@ -5,11 +5,11 @@ use Rattle.twp_calls.specs.Calls.{ByAccount, OnPlat, account_of}
 use Rattle.twp_calls.specs.GivenPlats.{IsGivenPlat}
 use Rattle.twp_calls.specs.declared.basis.Basis.{Basis}
 use Rattle.twp_calls.specs.declared.basis.Basis.TheVariants as basis
-use Rattle.twp_calls.specs.declared.plat.TownshipPlat.{TownshipPlat as GivenPlat}
+use Rattle.twp_calls.specs.declared.plat.TownshipPlat.{TownshipPlat}
 
 -- the basis is the plat and the account that are given; or the verdict that any call answers, since one of
 -- them is not valid
-abbrev pub IsBasis : GivenPlat → ℕ → Basis → Type 0
+abbrev pub IsBasis : TownshipPlat → ℕ → Basis → Type 0
 IsBasis given code (basis.Valid plat account) = IsGivenPlat given plat × (account_of code ≡ Some account)
 IsBasis given code (basis.Invalid verdict) =
     OnPlat given (λ plat. ByAccount code (λ account answer. ⊥)) (bare verdict)

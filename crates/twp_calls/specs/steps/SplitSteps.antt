@@ -56,13 +56,13 @@ pub record IsNextHeading (text : List ℕ) (from : ℕ) (next : NextHeading) : T
       → HasTokens from (drop from text) (between ++ (heading ∷ more))
 
 -- no heading is after the place
-pub record HasNoHeading (text : List ℕ) (from : ℕ) : Type 0 where
+pub record HasNoHeadingAfter (text : List ℕ) (from : ℕ) : Type 0 where
   pub tokens : List Token
   pub cut : HasTokens from (drop from text) tokens
   pub none : NoHeading tokens
 
 abbrev pub GivesHeading : List ℕ → ℕ → Option NextHeading → Type 0
-GivesHeading text from None = HasNoHeading text from
+GivesHeading text from None = HasNoHeadingAfter text from
 GivesHeading text from (Some next) = IsNextHeading text from next
 
 -- the parts of a text whose first token begins a heading and ends at this place

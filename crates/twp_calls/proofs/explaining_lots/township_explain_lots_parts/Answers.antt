@@ -2,7 +2,7 @@
 use Rattle.std.proofs.Common.{subst}
 use Rattle.twp_diagnose.specs.ShownMessages.{ShowsIn}
 use Rattle.twp_explain.specs.LotRefusals.{AreNoLots}
-use Rattle.twp_calls.specs.LotExplanations.{IsOfLots}
+use Rattle.twp_calls.specs.LotExplanations.{IsOfLotTable}
 use Rattle.twp_calls.proofs.CallFacts.{held_by}
 use Rattle.twp_calls.proofs.ExplanationPartFacts.{shown_in_parts}
 use Rattle.twp_calls.proofs.LotExplanationFacts.{explains_refusal}
@@ -10,7 +10,7 @@ use Rattle.twp_calls.proofs.explaining_lots.township_explain_lots_parts.Goals as
 
 pub returns-in-Ok-Some-clause-answer : goal.returns-in-Ok-Some-clause-answer
 returns-in-Ok-Some-clause-answer c =
-    explains_refusal (AreNoLots c.args.table.now) (IsOfLots c.args.table.now) c.of_refusal-refused.result
+    explains_refusal (AreNoLots c.args.table.now) (IsOfLotTable c.args.table.now) c.of_refusal-refused.result
     c.in-Ok-Some.explained c.args.text.now c.put_explained.new.text c.put_explained.new.explanation
     c.put_explained.result
     (subst (λ bytes. AreNoLots bytes c.in-Ok-Some.explained.refusal) c.given.ensures.bytes

@@ -1,7 +1,7 @@
 -- If the notes make no plat, the list is unchanged.
 use Rattle.std.proofs.Common.{inl, refl}
 use Rattle.std.specs.Prelude.{⊤}
-use Rattle.twp_plat.specs.Plats.{TownshipPlat}
+use Rattle.twp_plat.specs.Plats.{SurveyPlat}
 use Rattle.twp_answers.specs.Answers.{IsNoPlat}
 use Rattle.twp_answers.specs.Tracts.{TRACTS_LIMIT}
 use Rattle.twp_answers.specs.ReportAnswers.{IsReportAnswer}
@@ -13,14 +13,14 @@ use Rattle.twp_answers.proofs.runs.report_answer.answer_of.Goals as goal
 
 pub returns-in-Ok-clause-reads : goal.returns-in-Ok-clause-reads
 returns-in-Ok-clause-reads g c =
-    second_read {P = TownshipPlat} same_fault TRACTS_LIMIT _ _ _ c.in-Ok.plat c.report_on.result
+    second_read {P = SurveyPlat} same_fault TRACTS_LIMIT _ _ _ c.in-Ok.plat c.report_on.result
     c.in-Ok.ensures.reads c.report_on.ensures.reads
 
 pub returns-in-Err-clause-reads : goal.returns-in-Err-clause-reads
 returns-in-Err-clause-reads g c =
     let notes = c.in-Err.ensures in
     stopped_on_plat TRACTS_LIMIT _ _ _ c.in-Err.stop c.answer_stop.result
-    (first_stopped {T = TownshipPlat} {U = ⊤} TRACTS_LIMIT _ _ _ _ c.in-Err.stop notes.reads notes.plat
+    (first_stopped {T = SurveyPlat} {U = ⊤} TRACTS_LIMIT _ _ _ _ c.in-Err.stop notes.reads notes.plat
     c.requires.tracts refl) c.answer_stop.ensures.answer
 
 pub returns-in-Err-clause-answer : goal.returns-in-Err-clause-answer
