@@ -84,6 +84,14 @@ class Tables(unittest.TestCase):
                 with self.assertRaisesRegex(ValueError, f"there is no section {section}"):
                     call(section)
 
+    def test_numbers_that_are_not_integers(self):
+        # Neither a float nor text counts as a number, even if its value is a section's or a lot's.
+        for call in (lambda: lake().where(14, 2.0), lambda: lake().where(14.0, 2), lambda: lake().where("14", 2),
+                     lambda: lake().where(14, "2"), lambda: lake().where(14, None), lambda: lake().section(14.0),
+                     lambda: lake().section("14"), lambda: lake().section(None)):
+            with self.assertRaisesRegex(TypeError, "cannot be interpreted as an integer"):
+                call()
+
     def test_section(self):
         self.assertEqual(lake().section(14), (
             PlatLot(1, Decimal("38.50"), "NE1/4NE1/4"), PlatLot(2, Decimal("12.25"), "N1/2NW1/4NE1/4"),
@@ -208,6 +216,28 @@ class Descriptions(RefusalCase):
                     self.assertEqual((refused.line, refused.column, refused.start), (1, at + 1, at))
                     self.assertIn(sentence or "", refused.sentence)
                     self.assertEqual(refused.hints, refused.hints if hints is None else hints)
+
+    def test_number_in_a_gap(self):
+        lots = Lots.read("section,lot,acres,land\nT,2,N,3,W\n" + "".join(
+            f"14,{lot},40.00,{part}1/4NE1/4\n" for lot, part in ((2, "NE"), (4, "NW"), (7, "SW"), (8, "SE"))))
+        sentence = "section 14 has lots 2, 4, 7, and 8"
+        for lot, hints in (
+            ("lot 3", ("the nearest lots are 2 and 4",)),
+            ("lot 5", ("the nearest lots are 4 and 7",)),
+            ("lot 6", ("the nearest lots are 4 and 7",)),
+            ("lots 2 to 3", ("the nearest lots are 2 and 4",)),
+            # The range is refused at its last number, which is a lot.
+            ("lots 2 to 8", ()),
+            # Before the first lot, and after the last one.
+            ("lot 1", ()),
+            ("lot 9", ()),
+            ("lot 300", ()),
+        ):
+            with self.subTest(lot=lot):
+                refused = self.refused(lots.acres, f"sec. 14, {lot}.")
+                self.assertEqual((refused.number, refused.sentence, refused.hints), (64, sentence, hints))
+        # Of the standard lots, none is missing between two others.
+        self.assertEqual(self.refused(Lots.new(WHERE).acres, "sec. 6, lot 8.").hints, ())
 
     def test_section_that_is_not_there(self):
         refused = self.refused(parts().acres, "secs. 19 to 21.")

@@ -4,6 +4,7 @@ from __future__ import annotations
 import datetime
 from ctypes import byref
 from decimal import Decimal
+from operator import index
 from typing import Iterator, List, NamedTuple, Optional, Sequence, Tuple
 
 from . import _library
@@ -72,6 +73,7 @@ class LotsPlaces:
         >>> township.Lots.new("T. 2 N., R. 3 W.").where(6, 7)
         'SW1/4SW1/4'
         """
+        section, lot = index(section), index(lot)
         if lot not in dict(self._lots_of(section)):
             raise ValueError(f"section {section} has no lot {lot}")
         return aliquot_parts(self._rows_of(section, lot))
@@ -87,6 +89,7 @@ class LotsPlaces:
         1 71.10 E1/2NW1/4
         None None W1/2NW1/4
         """
+        number = index(number)
         found = [
             PlatLot(lot, acres_of_hundredths(figure) if figure else None, aliquot_parts(self._rows_of(number, lot)))
             for lot, figure in self._lots_of(number)
