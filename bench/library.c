@@ -1,13 +1,14 @@
 /*
  * Makes one call of the library again and again, for bench/library.sh: `library NOTES CALL COUNT`. CALL is `read`
  * (notes to a plat), or a description on the kept plat: `one` part, `two` sections, `three` sections, three `whole`
- * sections, an `overlap` that is refused, `fifty` or `hundred` parts; or its canonical text: `text-one`, `text-three`;
- * or `land` (one part to land), or `combine` or `compare` (land of one section with other land); or the readings of a
- * description (`same`), of a text as leases have it (`a lease`), or of white space between two parts (`ways`). If CALL
- * begins with `table-`, NOTES is a lot table: `table-read`; the acres by it of two sections with lots and a part
- * (`table-two`), or of three whole sections (`table-whole`); or `table-land` or `table-text` (the land of the former,
- * or its canonical text). Prints the sum of the calls' answers, so that no call is optimized away, and their processor
- * time in seconds.
+ * sections, lots and parts in three sections (`mixed`), an `overlap` that is refused, `fifty` or `hundred` parts; or
+ * the canonical text of one of these, as `text-one`; or `land` (one part to land), or `combine` or `compare` (land of
+ * one section with other land); or the readings of a description (`same`), of a text as leases have it (`a lease`), or
+ * of white space between two parts (`ways`). If CALL begins with `table-`, NOTES is a lot table: `table-read`; the
+ * acres by it of two sections with lots and a part (`table-two`), or of three whole sections (`table-whole`); or
+ * `table-land` or `table-text` (the land of the former, or its canonical text). With `halves-` before `table-two`,
+ * `table-land`, or `table-text`, the land is three lots of a section that lie in halves of quarter-quarters. Prints the
+ * sum of the calls' answers, so that no call is optimized away, and their processor time in seconds.
  */
 #include "township.h"
 
@@ -38,8 +39,10 @@ static size_t description_of(const char *call) {
         {"two", "T. 2 N., R. 3 W., sec. 5, lots 1 and 2, S1/2NE1/4; sec. 14, NE1/4."},
         {"three", "T. 2 N., R. 3 W., sec. 8, SE1/4SE1/4; sec. 14, N1/2, SE1/4; sec. 23, N1/2NE1/4, SW1/4."},
         {"whole", "secs. 14, 15, and 23."},
+        {"mixed", "sec. 5, lots 1 and 2, S1/2NE1/4; sec. 14, NE1/4; sec. 20, S1/2NW1/4, SE1/4."},
         {"table-two", "sec. 5, lots 1 and 2, S1/2NE1/4; sec. 14, SE1/4."},
         {"table-whole", "secs. 14, 15, and 23."},
+        {"halves", "sec. 16, lots 1, 2, and 4."},
         {"overlap", "sec. 14, NE1/4 and N1/2."},
     };
     for (size_t row = 0; row < sizeof named / sizeof named[0]; row++) {
@@ -60,24 +63,29 @@ static uint64_t on_land(const char *call, long count) {
 
     township_land_read(&here, north, sizeof north - 1, &first);
     township_land_read(&here, corner, sizeof corner - 1, &second);
-    for (long done = 0; done < count; done++) {
-        if (strcmp(call, "land") == 0) {
+    if (strcmp(call, "land") == 0) {
+        for (long done = 0; done < count; done++) {
             sum += township_land_read(&here, corner, sizeof corner - 1, &made).verdict + made.rows[13][31];
-        } else if (strcmp(call, "combine") == 0) {
+        }
+    } else if (strcmp(call, "combine") == 0) {
+        for (long done = 0; done < count; done++) {
             sum += township_land_combine(&first, &second, TOWNSHIP_DIFFERENCE, &made).verdict + made.rows[13][31];
-        } else {
+        }
+    } else {
+        for (long done = 0; done < count; done++) {
             sum += township_land_compare(&first, &second, &comparison).verdict + comparison;
         }
     }
     return sum;
 }
 
-/* One of the calls by a lot table, as often as it is to be made. Returns the sum of the answers. */
-static uint64_t by_table(const char *call, const uint8_t *table, size_t table_length, long count) {
+/* One of the calls by a lot table, on this description, as often as it is to be made. Returns the answers' sum. */
+static uint64_t by_table(const char *call, const char *described, const uint8_t *table, size_t table_length,
+                         long count) {
     static township_lots lots;
     static township_land land;
     static uint8_t written[4096];
-    size_t length = description_of(strcmp(call, "table-whole") == 0 ? call : "table-two");
+    size_t length = description_of(described);
     uint64_t sum = township_lots_read(table, table_length, &lots).verdict;
 
     sum += township_lots_land_read(&lots, text, length, &land).verdict;
@@ -133,7 +141,10 @@ int main(int argc, char **argv) {
             sum += township_read(notes, notes_length, &plat).verdict + plat.number;
         }
     } else if (strncmp(argv[2], "table-", 6) == 0) {
-        sum = by_table(argv[2], notes, notes_length, count);
+        const char *described = strcmp(argv[2], "table-whole") == 0 ? "table-whole" : "table-two";
+        sum = by_table(argv[2], described, notes, notes_length, count);
+    } else if (strncmp(argv[2], "halves-", 7) == 0) {
+        sum = by_table(argv[2] + 7, "halves", notes, notes_length, count);
     } else if (argv[2][0] == 'l' || argv[2][0] == 'c') {
         sum = on_land(argv[2], count);
     } else if (strncmp(argv[2], "text-", 5) == 0) {

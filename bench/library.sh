@@ -1,7 +1,7 @@
 #!/bin/sh
 # Prints how many instructions a call of the library takes: notes to a plat, and on a kept plat descriptions of one
-# part, of a lot or two and a part in two sections, of parts in three sections, of three whole sections, of land named
-# twice, and of 50 and 100 parts; the canonical text of two of them; a description to land, and land of one section
+# part, of lots and parts in two and three sections, of parts in three sections, of three whole sections, of land named
+# twice, and of 50 and 100 parts; the canonical text of five of them; a description to land, and land of one section
 # combined with other land and compared to it; the readings of texts; and calls by lot tables. A count is that of 2,000
 # calls less that of 1,000, by valgrind's callgrind. Beside it are the count in bench/expected-library and the ratio of
 # the two; the status is 1 if a ratio is over 1.02, or if the last 50 parts take over 1.05 times as many as the 49
@@ -39,9 +39,13 @@ one=$found
 row 'lots and a part in two sections' two
 row 'parts in three sections' three
 row 'three whole sections' whole
+row 'lots and parts in three sections' mixed
 row 'refused 67' overlap
 row 'canonical text of one part' text-one
 row 'canonical text of parts in three sections' text-three
+row 'canonical text of lots and a part in two sections' text-two
+row 'canonical text of lots and parts in three sections' text-mixed
+row 'canonical text of three whole sections' text-whole
 row '50 parts' fifty
 fifty=$found
 row '100 parts' hundred
@@ -56,7 +60,8 @@ row 'the readings of a description' same
 row 'the readings of a text of a lease' 'a lease'
 row 'the readings of white space between parts' ways
 # Calls by a lot table. The lots of the second table are the standard ones, too, but it says where they lie, so calls by
-# it take the way of any plat: at most 1.3 times as many instructions. The third has halves of quarter-quarters.
+# it take the way of any plat: at most 1.3 times as many instructions. The third has halves of quarter-quarters, in which
+# three lots lie.
 for table in standard own; do
     of="by a table of the plat's own lots"
     [ "$table" = own ] || of='by a table of the standard lots'
@@ -68,6 +73,9 @@ done
 row 'a table of the standard lots to lots' table-read bench/lots-standard.csv
 row 'a table with land to lots' table-read bench/lots-own.csv
 row 'a table with land and lakes to lots' table-read bench/lots-lake.csv
+row 'three lots in halves, by a table with lakes' halves-table-two bench/lots-lake.csv
+row 'land of three lots in halves, by a table with lakes' halves-table-land bench/lots-lake.csv
+row 'text of three lots in halves, by a table with lakes' halves-table-text bench/lots-lake.csv
 
 "$work/library" samples/b1.csv one 1000000 |
     awk '{ printf "%-48s %10.0f a second\n", "one part, from C", 1000000 / $3 }'
