@@ -22,6 +22,14 @@ fn only(readings: Vec<Reading>) -> Reading {
     reading
 }
 
+/// Asserts that the first part of a text has one reading, and that it has these acres by the lots of its plat.
+fn assert_read_on_its_plat(plats: &Plats, mut parts: Vec<PartReadings>, acres: &str, text: &str) {
+    let reading = only(parts.remove(0).suggestion.readings);
+    let found = plats.acres(&reading.text).unwrap().to_string();
+    assert_eq!(found, acres, "{text}");
+    assert!(!reading.assumes_standard_lots, "{text}");
+}
+
 #[test]
 fn lots_of_the_table_are_named() {
     let reading = only(corner().suggest("Sec 14: N2").readings);
@@ -191,16 +199,10 @@ fn land_before_its_heading() {
         ("Kestrel Sec 14-2N-3W NE4", "150.55"),
         ("All of Sec 14 less Lot 1, T2N R3W", "543.15"),
     ] {
-        let mut parts = plats.suggest_without(text, &phrases).unwrap();
+        let parts = plats.suggest_without(text, &phrases).unwrap();
         assert_eq!(parts.len(), 1, "{text}");
         assert_eq!((parts[0].start, parts[0].end), (0, text.len()));
-        let reading = only(parts.remove(0).suggestion.readings);
-        assert_eq!(
-            plats.acres(&reading.text).unwrap().to_string(),
-            acres,
-            "{text}"
-        );
-        assert!(!reading.assumes_standard_lots);
+        assert_read_on_its_plat(&plats, parts, acres, text);
     }
 }
 
@@ -219,14 +221,8 @@ fn lots_that_only_the_table_has() {
         ("Sec 14-3N-3W L4", "70.10"),
         ("Fractional NE/4 Sec 14-2N-3W", "150.55"),
     ] {
-        let mut parts = plats.suggest(text).unwrap();
-        let reading = only(parts.remove(0).suggestion.readings);
-        assert_eq!(
-            plats.acres(&reading.text).unwrap().to_string(),
-            acres,
-            "{text}"
-        );
-        assert!(!reading.assumes_standard_lots);
+        let parts = plats.suggest(text).unwrap();
+        assert_read_on_its_plat(&plats, parts, acres, text);
     }
     // A lot that the plat doesn't have; another range and another side, of which there is no table.
     for text in ["L9 Sec 14-2N-3W", "L4 Sec 14-2N-4W", "L4 Sec 14-2S-3W"] {
