@@ -124,7 +124,9 @@ pub(crate) fn ends_plain_words(pieces: &Pieces<'_>, index: usize) -> bool {
 fn may_be_of_lead(pieces: &Pieces<'_>, index: usize) -> bool {
     match pieces.kind(index) {
         Kind::Other | Kind::And | Kind::Comma | Kind::Stop | Kind::BadNumber => true,
-        Kind::Number(_) => { is_number_of_label(pieces, index) || !pieces.may_be_section(index) }
+        Kind::Number(_) => {
+            is_number_of_label(pieces, index) || !pieces.may_be_section(index)
+        }
         Kind::BadByte => {
             pieces.is(index, b"&")
                 || pieces.is(index, b"#")

@@ -67,7 +67,7 @@ pub fn end_of_remark(pieces: &Pieces<'_>, index: usize, position: Position) -> O
         || is_homesite_of_acreage(pieces, index)
         || begins_question(pieces, index)
         || is_in_cell(pieces, index);
-    let mut is_plain = !is_sure && may_be_plain(pieces, index);
+    let mut is_plain = may_be_plain(pieces, index);
     let mut next = index;
     for place in index..plus(index, PIECES_MOST) {
         let ends_note = (is_sure || is_plain)
@@ -99,8 +99,8 @@ pub fn end_of_remark(pieces: &Pieces<'_>, index: usize, position: Position) -> O
             return None;
         }
         has_word = has_word || says_something(pieces, place);
+        is_plain = is_plain && is_plain_at(pieces, place);
         is_sure = is_sure || is_known_at(pieces, place) || is_of_long_figure(pieces, place);
-        is_plain = is_plain && (is_sure || is_plain_at(pieces, place));
     }
     None
 }
