@@ -49,8 +49,8 @@ impl<'a> Pieces<'a> {
         }
     }
 
-    /// The index after acreage with decimals at an index, and a comma, before more that is said of the land, as
-    /// in `(120.00 ac., 60.00 net)`.
+    /// The index after acreage with decimals at an index, and a comma, before more that is said of
+    /// the land, as in `(120.00 ac., 60.00 net)`.
     pub(crate) fn after_acreage_in_list(&self, index: usize) -> usize {
         let is_large = self.is(plus(index, 1), b",") && self.has_digits(plus(index, 2), 3);
         if !self.is_figure_with_decimals(index) && !is_large {
@@ -151,16 +151,16 @@ impl<'a> Pieces<'a> {
         Some(self.after_other_acreage(next))
     }
 
-    /// Whether a figure at an index is a total, which ends before another index with `net` or `gross`: it may have no
-    /// other unit, as in `240.00 gross`.
+    /// Whether a figure at an index is a total, which ends before another index with `net` or
+    /// `gross`: it may have no other unit, as in `240.00 gross`.
     fn is_total(&self, figure: usize, end: usize) -> bool {
         (self.is_figure_with_decimals(figure) && self.begins_column(end))
             || self.is(end, b")")
             || self.is_before_other_total(end)
     }
 
-    /// Whether a slash, a number, and `net` or `gross` are at an index, as after `320 gross` in `320 gross/160 net`, or the
-    /// end of such a pair is there.
+    /// Whether a slash, a number, and `net` or `gross` are at an index, as after `320 gross` in
+    /// `320 gross/160 net`, or the end of such a pair is there.
     fn is_before_other_total(&self, index: usize) -> bool {
         let is_pair = self.is(index, b"/")
             && self.number(plus(index, 1)).is_some()
@@ -170,7 +170,8 @@ impl<'a> Pieces<'a> {
         is_pair || is_second
     }
 
-    /// Whether `net` or `gross` at an index is of the acreage before it, and doesn't name the next one with a colon.
+    /// Whether `net` or `gross` at an index is of the acreage before it, and doesn't name the next
+    /// one with a colon.
     fn is_kind_of_acreage(&self, index: usize) -> bool {
         is_net_or_gross(self.lower(index)) && !self.is(plus(index, 1), b":")
     }

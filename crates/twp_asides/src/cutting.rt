@@ -207,8 +207,9 @@ fn size_of_first(token: Piece, bytes: &[u8], lower: &[u8], before: &[Piece]) -> 
     }
 }
 
-/// Whether a number of six digits has the code of a state or the number of a section in its first two: N or S is after it,
-/// as in `080020N0030W`, or the side of a range before it, as in `02N03W149000`.
+/// Whether a number of six digits has the code of a state or the number of a section in its first
+/// two: N or S is after it, as in `080020N0030W`, or the side of a range before it, as in
+/// `02N03W149000`.
 fn is_of_register(token: Piece, lower: &[u8], before: &[Piece]) -> bool {
     matches!(lower.get(token.end), Some(b'n' | b's'))
         || (matches!(token.gap, Spacing::Nothing) && is_after_east_west(before))
@@ -222,7 +223,8 @@ fn is_after_east_west(before: &[Piece]) -> bool {
     }
 }
 
-/// Whether a word is the side of a range, and the letter or the word for a section after it, as in `T2NR3WSEC22`.
+/// Whether a word is the side of a range, and the letter or the word for a section after it, as in
+/// `T2NR3WSEC22`.
 fn is_range_and_section(bytes: &[u8]) -> bool {
     matches!(
         bytes,

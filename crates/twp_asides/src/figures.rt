@@ -237,7 +237,8 @@ impl<'a> Pieces<'a> {
             && !(self.is(next, b",") && self.has_digits(plus(index, 2), 3))
     }
 
-    /// Whether an ordinal is at an index, as the day in `the 3rd day of May`, or a share in eighths, as `8/8ths`.
+    /// Whether an ordinal is at an index, as the day in `the 3rd day of May`, or a share in
+    /// eighths, as `8/8ths`.
     fn is_day_or_eighths(&self, index: usize) -> bool {
         let next = plus(index, 1);
         let second = plus(index, 2);

@@ -8,7 +8,8 @@ use crate::word_rows::{
 use twp_grammar::Kind;
 use twp_words::is_acres;
 
-/// How many bytes a row has before its filling, if a text in lowercase begins with them. The first letter is the same.
+/// How many bytes a row has before its filling, if a text in lowercase begins with them. The first
+/// letter is the same.
 fn size_of_front(text: &[u8], row: &[u8; WORDS_MOST]) -> Option<usize> {
     for index in 1..row.len() {
         if row[index] == b'_' {

@@ -66,7 +66,8 @@ impl<'a> Pieces<'a> {
     }
 
     /// Where words for the mineral acres that somebody means to convey at an index end, as in
-    /// `it being the intent of Grantor to convey 80 net mineral acres`: they say nothing of which land is meant.
+    /// `it being the intent of Grantor to convey 80 net mineral acres`: they say nothing of which
+    /// land is meant.
     pub fn end_of_intent(&self, index: usize) -> Option<usize> {
         let intent = plus(index, 3);
         let is_intent = self.is(index, b"it")

@@ -191,8 +191,8 @@ impl<'a> Pieces<'a> {
             && (self.begins_land(land) || is_lot)
     }
 
-    /// Whether a hyphen without white space is at an index, after a number, and `all` or a part with its fraction after it,
-    /// as in `8-ALL`, or `17-N2`.
+    /// Whether a hyphen without white space is at an index, after a number, and `all` or a part
+    /// with its fraction after it, as in `8-ALL`, or `17-N2`.
     pub fn is_before_hyphen_and_land(&self, index: usize) -> bool {
         let land = plus(index, 1);
         let is_land = matches!(self.kind(land), Kind::All) || is_sure_part(self, land);

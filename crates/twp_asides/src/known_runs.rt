@@ -1,4 +1,5 @@
-//! Runs of words each of which is known to say nothing of which land is meant: `, HBP`, `(fee)`, `480 acs PS`.
+//! Runs of words each of which is known to say nothing of which land is meant: `, HBP`, `(fee)`,
+//! `480 acs PS`.
 
 use crate::pieces::{Pieces, plus};
 use twp_grammar::Kind;
@@ -25,8 +26,8 @@ impl<'a> Pieces<'a> {
         }
     }
 
-    /// Where acreage in parentheses with a known word before it ends, as `(public 1,280 ac)`: with less than a thousand
-    /// acres, the text may mean a part of the land.
+    /// Where acreage in parentheses with a known word before it ends, as `(public 1,280 ac)`: with
+    /// less than a thousand acres, the text may mean a part of the land.
     pub fn end_of_known_acreage(&self, index: usize) -> Option<usize> {
         let word = plus(index, 1);
         let is_large = self.is(plus(word, 2), b",") && self.is_joined(plus(word, 2));
@@ -57,7 +58,8 @@ impl<'a> Pieces<'a> {
         None
     }
 
-    /// Whether some pieces are a label before a mark, of which a word is known, as `Allotment No. 00412, Pickles Butte:`.
+    /// Whether some pieces are a label before a mark, of which a word is known, as
+    /// `Allotment No. 00412, Pickles Butte:`.
     pub fn is_known_label(&self, first: usize, end: usize) -> bool {
         let is_marked = self.follows(end, b":") || (self.is_dash(end) && !self.is_joined(end));
         if !is_marked {
@@ -71,7 +73,8 @@ impl<'a> Pieces<'a> {
         false
     }
 
-    /// Whether some pieces are a date with slashes, as `5/11/32`, or `3/1/2005`, of which a fraction takes a digit.
+    /// Whether some pieces are a date with slashes, as `5/11/32`, or `3/1/2005`, of which a
+    /// fraction takes a digit.
     pub fn is_slashed_date(&self, first: usize, end: usize) -> bool {
         let is_slashed = self.is(plus(first, 1), b"/");
         let is_cut = end == plus(first, 4) && self.is_date(first);

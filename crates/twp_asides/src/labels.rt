@@ -69,8 +69,8 @@ impl<'a> Pieces<'a> {
         if is_whole { Some(end) } else { None }
     }
 
-    /// Whether `for` is at an index, as a patent begins, or after a comma, or the number of an entry, and land after
-    /// it.
+    /// Whether `for` is at an index, as a patent begins, or after a comma, or the number of an
+    /// entry, and land after it.
     pub(crate) fn is_for_before_land(&self, index: usize) -> bool {
         if !self.is(index, b"for") {
             return false;
@@ -238,8 +238,8 @@ impl<'a> Pieces<'a> {
         None
     }
 
-    /// Where the name of a farm unit of a reclamation project at an index ends, before the same land in lots and
-    /// aliquot parts, as `Farm Unit "C", according to the Farm Unit Plat, or`.
+    /// Where the name of a farm unit of a reclamation project at an index ends, before the same
+    /// land in lots and aliquot parts, as `Farm Unit "C", according to the Farm Unit Plat, or`.
     fn end_of_farm_unit(&self, index: usize) -> Option<usize> {
         let farm = plus(index, usize::from(self.is(index, b"the")));
         if !self.is(farm, b"farm") || !self.is(plus(farm, 1), b"unit") {

@@ -3,18 +3,18 @@
 use crate::marks::is_known_at;
 use crate::notes::is_of_company_name;
 use crate::pieces::{Pieces, plus};
-use crate::plain::is_plain_at;
 use twp_grammar::Kind;
 use twp_words::{
-    are_corners, is_acres, is_boundary, is_doubtful_title, is_feature, is_instrument, is_of_label,
-    is_of_lead, is_of_tract, is_same, is_site, limits_land, names_parcel, points_into,
+    are_corners, is_acres, is_boundary, is_doubtful_title, is_feature, is_instrument, is_of_lead,
+    is_same, is_site, limits_land, names_parcel, points_into,
 };
 
 /// The most pieces of what is said before land without a mark at its end.
 const LEAD_MOST: usize = 32;
 
-/// Whether land is at an index, after what leads to it without a mark, as in `lease covers the SW1/4`: a word for title,
-/// a lease, or the like is among the words before it, and none that may say where in the land something is.
+/// Whether land is at an index, after what leads to it without a mark, as in
+/// `lease covers the SW1/4`: a word for title, a lease, or the like is among the words before it,
+/// and none that may say where in the land something is.
 pub(crate) fn ends_lead(pieces: &Pieces<'_>, index: usize) -> bool {
     let Some(last) = index.checked_sub(1) else {
         return false;
@@ -42,8 +42,9 @@ pub(crate) fn ends_lead(pieces: &Pieces<'_>, index: usize) -> bool {
     false
 }
 
-/// Whether `the` and a part are at an index, after a verb, or who it is for, as in `I give my wife the SW1/4`; or a word
-/// that leads to land without more, as in `will sign for the W/2`.
+/// Whether what is before an index leads to the land there without a word for title: `the` and a
+/// part after a verb or a person, as in `I give my wife the SW1/4`, or a word such as `for`, as in
+/// `will sign for the W/2`.
 fn is_plain_lead(pieces: &Pieces<'_>, index: usize, last: usize) -> bool {
     let word = pieces.lower(last);
     let is_word = matches!(pieces.kind(last), Kind::Other)
@@ -62,8 +63,8 @@ fn is_plain_lead(pieces: &Pieces<'_>, index: usize, last: usize) -> bool {
         || is_same(word, b"covering")
 }
 
-/// Whether a section, a township, or an aliquot part is at an index that can be nothing else, after the names and the
-/// instrument of a record, as in `QCD AMES TO DOYLE NWSE 17-2N-3W`.
+/// Whether a section, a township, or an aliquot part is at an index that can be nothing else, after
+/// the names and the instrument of a record, as in `QCD AMES TO DOYLE NWSE 17-2N-3W`.
 pub(crate) fn ends_record(pieces: &Pieces<'_>, index: usize) -> bool {
     let is_place = matches!(pieces.kind(index), Kind::Sec) || pieces.is_township_word(index);
     if !is_place && !is_sure_part(pieces, index) {
@@ -86,71 +87,6 @@ pub(crate) fn ends_record(pieces: &Pieces<'_>, index: usize) -> bool {
         }
     }
     false
-}
-
-/// Whether a section, a township, or an aliquot part is at an index that can be nothing else, after plain words alone, of
-/// which the last doesn't say where in the land something is, as in `SMITH JOHN SWSE SEC 9`.
-pub(crate) fn ends_plain_words(pieces: &Pieces<'_>, index: usize) -> bool {
-    let Some(last) = index.checked_sub(1) else {
-        return false;
-    };
-    let is_place = matches!(pieces.kind(index), Kind::Sec) || pieces.begins_tier(index);
-    if !(is_place || is_sure_part(pieces, index))
-        || (points_into(pieces.lower(last)) && !is_same(pieces.lower(last), b"on"))
-        || !matches!(pieces.kind(last), Kind::Other)
-        || pieces.is_joined(index)
-    {
-        return false;
-    }
-    for count in 1..LEAD_MOST {
-        let Some(place) = index.checked_sub(count) else {
-            return true;
-        };
-        if !may_be_of_lead(pieces, place)
-            || points_to_place(pieces, place)
-            || !is_plain_at(pieces, place)
-        {
-            return false;
-        }
-        if begins_lead(pieces, place) {
-            return true;
-        }
-    }
-    false
-}
-
-/// Whether the piece at an index may be of plain words before land: a word, a comma, a period, or a number that is that of
-/// no section.
-fn may_be_of_lead(pieces: &Pieces<'_>, index: usize) -> bool {
-    match pieces.kind(index) {
-        Kind::Other | Kind::And | Kind::Comma | Kind::Stop | Kind::BadNumber => true,
-        Kind::Number(_) => {
-            is_number_of_label(pieces, index) || !pieces.may_be_section(index)
-        }
-        Kind::BadByte => {
-            pieces.is(index, b"&")
-                || pieces.is(index, b"#")
-                || pieces.is(index, b"$")
-                || pieces.is(index, b"'")
-                || (pieces.is(index, b"/") && is_in_date(pieces, index))
-        }
-        _ => false,
-    }
-}
-
-/// Whether a slash at an index is the first or the second one of a date.
-fn is_in_date(pieces: &Pieces<'_>, index: usize) -> bool {
-    matches!(index.checked_sub(1), Some(first) if pieces.is_date(first))
-        || matches!(index.checked_sub(3), Some(first) if pieces.is_date(first))
-}
-
-/// Whether the number of a label is at an index, as in `Tract 4 Hansen lease`.
-fn is_number_of_label(pieces: &Pieces<'_>, index: usize) -> bool {
-    let is_label = match pieces.lower_back(index, 1) {
-        Some(word) => is_of_label(word) || is_of_tract(word) || is_same(word, b"#"),
-        None => false,
-    };
-    is_label && pieces.number(index).is_some() && !pieces.is_joined(plus(index, 1))
 }
 
 /// Whether two corners or more, or a half or a quarter with its fraction, are at an index.

@@ -7,8 +7,8 @@ use twp_words::{alters_land, is_of_covering};
 const LIMITS_MOST: usize = 48;
 
 impl<'a> Pieces<'a> {
-    /// Where depths to which a lease is limited end, before the land that it covers, as in `Limited to those depths from the
-    /// surface to the base of the Lance Formation, insofar as the lease covers`.
+    /// Where depths to which a lease is limited end, before the land that it covers, as in
+    /// `Limited to those depths from the surface to the base of the Lance Formation, insofar as the lease covers`.
     pub(crate) fn end_of_limits(&self, index: usize) -> Option<usize> {
         if !self.is(index, b"limited") || !self.is(plus(index, 1), b"to") {
             return None;

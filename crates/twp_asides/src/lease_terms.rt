@@ -4,8 +4,8 @@ use crate::pieces::{Pieces, plus};
 use twp_grammar::Kind;
 
 impl<'a> Pieces<'a> {
-    /// Where the years of a lease end that are at an index, after a mark or with its column: at a mark, or with its
-    /// column.
+    /// Where the years of a lease end that are at an index, after a mark or with its column: at a
+    /// mark, or with its column.
     pub fn end_of_years(&self, index: usize) -> Option<usize> {
         let unit = plus(index, 1);
         let is_years = self.number(index).is_some()
@@ -41,7 +41,8 @@ impl<'a> Pieces<'a> {
         if is_apart { Some(end) } else { None }
     }
 
-    /// Where a price ends whose figure is at an index, as in `@ $10.00 per acre`: at a mark, or with its column.
+    /// Where a price ends whose figure is at an index, as in `@ $10.00 per acre`: at a mark, or
+    /// with its column.
     fn end_of_price(&self, index: usize) -> Option<usize> {
         let unit = self.end_of_decimal(index)?;
         let is_per = self.is(unit, b"/") || self.is(unit, b"per");
@@ -53,7 +54,8 @@ impl<'a> Pieces<'a> {
         }
     }
 
-    /// Where a decimal interest ends, as `0.06250000`, alone after a mark or in its column: no acreage has so many digits.
+    /// Where a decimal interest ends, as `0.06250000`, alone after a mark or in its column: no
+    /// acreage has so many digits.
     pub fn end_of_decimal_interest(&self, index: usize) -> Option<usize> {
         let point = plus(index, 1);
         let digits = plus(index, 2);
@@ -90,8 +92,8 @@ impl<'a> Pieces<'a> {
         )
     }
 
-    /// Where a share ends that is at an index, by the letters for it and a decimal, after a mark or with its column: at a
-    /// mark, or with its column.
+    /// Where a share ends that is at an index, by the letters for it and a decimal, after a mark or
+    /// with its column: at a mark, or with its column.
     pub fn end_of_lettered_share(&self, index: usize) -> Option<usize> {
         let is_share = self.is(index, b"nma")
             || self.is(index, b"nra")

@@ -25,7 +25,6 @@ mod named_townships;
 mod notes;
 mod parcel_numbers;
 mod pieces;
-mod plain;
 mod quarter_columns;
 mod remark_ends;
 mod remarks;

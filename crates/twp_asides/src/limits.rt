@@ -113,9 +113,9 @@ pub(crate) fn is_type_of_case(pieces: &Pieces<'_>, index: usize) -> bool {
         && (pieces.is_back(index, 3, b"type") || pieces.is_back(index, 4, b"type"))
 }
 
-/// Whether the word at an index is of `made a part of`, `by and between`, `only insofar`, `Fee minerals:`,
-/// `Proposed Reinstatement of Terminated Oil and Gas Lease`, `Row 14`, or `Case Type 281001: ROW-ROADS`, which limit
-/// no land.
+/// Whether the word at an index is of `made a part of`, `by and between`, `only insofar`,
+/// `Fee minerals:`, `Proposed Reinstatement of Terminated Oil and Gas Lease`, `Row 14`, or
+/// `Case Type 281001: ROW-ROADS`, which limit no land.
 fn is_of_instrument(pieces: &Pieces<'_>, index: usize) -> bool {
     let is_part = pieces.is(index, b"part")
         && pieces.follows(index, b"a")
@@ -176,7 +176,8 @@ pub(crate) fn is_exempt(pieces: &Pieces<'_>, index: usize) -> bool {
     pieces.is(index, b"exempt") && (pieces.is(next, b")") || pieces.begins_column(next))
 }
 
-/// Whether the word at an index is of `IT IS FURTHER ORDERED`, or the value of a column, as in `SURVTYPTXT=Original`.
+/// Whether the word at an index is of `IT IS FURTHER ORDERED`, or the value of a column, as in
+/// `SURVTYPTXT=Original`.
 fn is_of_formula(pieces: &Pieces<'_>, index: usize) -> bool {
     (pieces.is(index, b"further") && pieces.is(plus(index, 1), b"ordered"))
         || (pieces.is(index, b"original") && pieces.follows(index, b"="))

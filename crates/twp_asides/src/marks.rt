@@ -31,8 +31,8 @@ pub(crate) fn is_title_of_other(pieces: &Pieces<'_>, index: usize) -> bool {
         || (is_same(word, b"sale") && pieces.follows(index, b"timber"))
 }
 
-/// Whether the name of a well follows at an index, as in `Well: Kestrel 1-15H`, and its text is about interests in a unit,
-/// and not about the place of the well.
+/// Whether the name of a well follows at an index, as in `Well: Kestrel 1-15H`, and its text is
+/// about interests in a unit, and not about the place of the well.
 pub(crate) fn is_well_of_unit(pieces: &Pieces<'_>, index: usize) -> bool {
     let is_named = pieces.is(plus(index, 1), b":")
         && (pieces.is(index, b"well")

@@ -1,4 +1,5 @@
-//! The townships that headings name, with their letters or without them: `T. 2 N., R. 3 W.`, `2N-3W`, `0020N 0030W`.
+//! The townships that headings name, with their letters or without them: `T. 2 N., R. 3 W.`,
+//! `2N-3W`, `0020N 0030W`.
 
 use crate::pieces::{Pieces, plus};
 use twp_grammar::Kind;
@@ -22,8 +23,8 @@ pub(crate) fn are_different(first: Option<NamedTownship>, heading: Option<NamedT
 }
 
 impl<'a> Pieces<'a> {
-    /// The township that a heading at an index names: with its letters, or as numbers with their sides joined to
-    /// them, as in `2N-3W`.
+    /// The township that a heading at an index names: with its letters, or as numbers with their
+    /// sides joined to them, as in `2N-3W`.
     pub(crate) fn heading_at(&self, index: usize) -> Option<NamedTownship> {
         let has_letters = matches!(self.kind(index), Kind::T);
         let township = if has_letters {

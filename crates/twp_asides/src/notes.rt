@@ -1,5 +1,5 @@
-//! What is said after land, with a mark before it, as in `; IMP $12,400`; names of companies; and where what is said
-//! before land ends at a mark.
+//! What is said after land, with a mark before it, as in `; IMP $12,400`; names of companies; and
+//! where what is said before land ends at a mark.
 
 use crate::pieces::{Pieces, plus};
 use crate::remarks::Position;
@@ -12,8 +12,8 @@ pub(crate) const PIECES_SEARCHED: usize = 1_000;
 /// The most words of the name of a company.
 const COMPANY_MOST: usize = 4;
 
-/// Whether the piece at an index is the first of a cell after a tab or a bar, in a text without lots, which may be those
-/// of a town.
+/// Whether the piece at an index is the first of a cell after a tab or a bar, in a text without
+/// lots, which may be those of a town.
 pub(crate) fn is_in_cell(pieces: &Pieces<'_>, index: usize) -> bool {
     (pieces.has_before(index, b'\t') || pieces.follows(index, b"|")) && !has_lots(pieces)
 }
@@ -123,8 +123,8 @@ pub(crate) fn begins_code_of_state(pieces: &Pieces<'_>, index: usize) -> bool {
     is_state(pieces.lower(index)) && pieces.is_joined(next) && pieces.begins_register(next)
 }
 
-/// Whether a number that may be that of a section, and a hyphen with more digits after it, are at an index, as in
-/// `File: 11-204`: with the word before them, they are the number of a file.
+/// Whether a number that may be that of a section, and a hyphen with more digits after it, are at
+/// an index, as in `File: 11-204`: with the word before them, they are the number of a file.
 pub(crate) fn is_before_file_number(pieces: &Pieces<'_>, index: usize) -> bool {
     let dash = plus(index, 1);
     let last = plus(index, 2);

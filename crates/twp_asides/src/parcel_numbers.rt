@@ -94,7 +94,8 @@ impl<'a> Pieces<'a> {
         self.end_of_figure_called(index, b"net")
     }
 
-    /// Where a figure ends that is called by a word, after a mark or with its column: at a mark, or with its column.
+    /// Where a figure ends that is called by a word, after a mark or with its column: at a mark, or
+    /// with its column.
     fn end_of_figure_called(&self, index: usize, word: &[u8]) -> Option<usize> {
         let unit = self.end_of_decimal(index)?;
         let end = plus(unit, 1);

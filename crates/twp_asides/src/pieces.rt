@@ -126,8 +126,8 @@ impl<'a> Pieces<'a> {
         }
     }
 
-    /// Whether the text from a place on, in lowercase, begins with another, which is short. Comparing two slices
-    /// takes three times as long as a few bytes.
+    /// Whether the text from a place on, in lowercase, begins with another, which is short.
+    /// Comparing two slices takes three times as long as a few bytes.
     #[inline(never)]
     fn goes_on_as(&self, start: usize, text: &[u8]) -> bool {
         let rest = self.lower.get(start..).unwrap_or(b"");
@@ -245,8 +245,8 @@ impl<'a> Pieces<'a> {
         }
     }
 
-    /// The index of the value after the quote at an index, if that ends a name in a record, as in `"sec":14`, or
-    /// `"legal":"NENE"`.
+    /// The index of the value after the quote at an index, if that ends a name in a record, as in
+    /// `"sec":14`, or `"legal":"NENE"`.
     pub fn after_quoted_name(&self, index: usize) -> Option<usize> {
         let colon = plus(index, 1);
         let value = plus(index, 2);

@@ -50,7 +50,8 @@ impl<'a> Pieces<'a> {
             && ((is_name && self.size(value) == 4) || (is_alone && self.size(value) == 2))
     }
 
-    /// Whether one column of a text that isn't long is for quarters, so that its value is no part of another one.
+    /// Whether one column of a text that isn't long is for quarters, so that its value is no part
+    /// of another one.
     fn has_one_column_of_quarters(&self) -> bool {
         if self.len() > PIECES_SEARCHED {
             return false;

@@ -1,5 +1,5 @@
-//! What a remark before land may end with: the number of a record, who conveys land, a sentence; and the questions
-//! after land.
+//! What a remark before land may end with: the number of a record, who conveys land, a sentence;
+//! and the questions after land.
 
 use crate::leads::is_sure_part;
 use crate::pieces::{Pieces, plus};
@@ -9,7 +9,8 @@ use twp_words::{is_same, points_into};
 /// The most pieces between who conveys land and the land, as in `conveys to Wm. Harker the SW1/4`.
 const CONVEYANCE_MOST: usize = 8;
 
-/// Whether the number of a record is before an index, and land after it, as in `WD BK 14 PG 22 INST 36115 E2NE`.
+/// Whether the number of a record is before an index, and land after it, as in
+/// `WD BK 14 PG 22 INST 36115 E2NE`.
 pub(crate) fn is_after_record(pieces: &Pieces<'_>, index: usize) -> bool {
     let Some(number) = index.checked_sub(1) else {
         return false;
@@ -88,7 +89,8 @@ pub(crate) fn is_end_of_sentence(pieces: &Pieces<'_>, index: usize) -> bool {
             || begins_named_value(pieces, next))
 }
 
-/// Whether the name of a value, and a colon, begin at an index after a sentence, as in `Bk 30 Pg 11. Grantor: Ole Berg`.
+/// Whether the name of a value, and a colon, begin at an index after a sentence, as in `Bk 30 Pg
+/// 11. Grantor: Ole Berg`.
 pub(crate) fn begins_named_value(pieces: &Pieces<'_>, index: usize) -> bool {
     let is_after_word = matches!(pieces.lower_back(index, 2), Some([_, _, ..]));
     pieces.follows(index, b".")

@@ -1,7 +1,7 @@
 //! Remarks beside land: a cell, a line, a sentence, or parentheses that name no land.
 ghost use Rattle.std.specs.Prelude.{◌<◌};
 
-use crate::leads::{ends_lead, ends_plain_words, ends_record};
+use crate::leads::{ends_lead, ends_record};
 use crate::limits::{is_beyond_remark, is_row_of_table, is_type_of_case, limits_land_at};
 use crate::marks::{
     begins_tract, is_homesite_of_acreage, is_initial, is_known_at, is_of_well, is_title_of_other,
@@ -13,7 +13,6 @@ use crate::notes::{
     is_of_company_name, is_of_long_figure, may_begin_note,
 };
 use crate::pieces::{Pieces, plus};
-use crate::plain::{begins_plain_words, is_plain_at, may_be_plain};
 use crate::remark_ends::{
     begins_named_value, begins_question, is_after_conveyance, is_after_record, is_end_of_question,
     is_end_of_sentence,
@@ -67,18 +66,12 @@ pub fn end_of_remark(pieces: &Pieces<'_>, index: usize, position: Position) -> O
         || is_homesite_of_acreage(pieces, index)
         || begins_question(pieces, index)
         || is_in_cell(pieces, index);
-    let mut is_plain = may_be_plain(pieces, index);
     let mut next = index;
     for place in index..plus(index, PIECES_MOST) {
-        let ends_note = (is_sure || is_plain)
-            && has_word
-            && is_dash_after_note(pieces, place, position);
+        let ends_note = is_sure && has_word && is_dash_after_note(pieces, place, position);
         let is_end = place >= pieces.len() || ends_note || ends_remark(pieces, place, position);
         if place > index && is_end {
-            if !has_word
-                || !(is_sure || is_plain)
-                || !may_end_remark(pieces, index, place, position)
-            {
+            if !has_word || !is_sure || !may_end_remark(pieces, index, place, position) {
                 return None;
             }
             return Some(plus(place, usize::from(is_colon_of_remark(pieces, place))));
@@ -99,7 +92,6 @@ pub fn end_of_remark(pieces: &Pieces<'_>, index: usize, position: Position) -> O
             return None;
         }
         has_word = has_word || says_something(pieces, place);
-        is_plain = is_plain && is_plain_at(pieces, place);
         is_sure = is_sure || is_known_at(pieces, place) || is_of_long_figure(pieces, place);
     }
     None
@@ -188,7 +180,6 @@ fn may_be_well(pieces: &Pieces<'_>, index: usize, place: usize, position: Positi
 /// a number that is that of no section.
 fn begins_remark(pieces: &Pieces<'_>, index: usize, position: Position) -> bool {
     let is_apart = pieces.begins_column(index)
-        || begins_plain_words(pieces, index)
         || is_name_of_value(pieces, index)
         || match position {
             Position::BeforeLand => is_after_mark_of_label(pieces, index),
@@ -286,7 +277,6 @@ fn ends_remark(pieces: &Pieces<'_>, index: usize, position: Position) -> bool {
                 || is_after_conveyance(pieces, index)
                 || ends_lead(pieces, index)
                 || ends_record(pieces, index)
-                || ends_plain_words(pieces, index)
                 || is_before_the_land(pieces, index)
                 || is_before_section_and_tier(pieces, index)
                 || pieces.is_for_before_land(index)
@@ -357,16 +347,10 @@ fn end_of_parentheses(pieces: &Pieces<'_>, index: usize) -> Option<usize> {
         || begins_reference(first)
         || begins_terms(first)
         || after_acreage > next;
-    let mut is_plain = may_be_plain(pieces, next);
     for place in after_acreage..plus(after_acreage, PARENTHESES_MOST) {
         if pieces.is(place, mark) {
-            return if is_sure || is_plain {
-                Some(plus(place, 1))
-            } else {
-                None
-            };
+            return if is_sure { Some(plus(place, 1)) } else { None };
         }
-        is_plain = is_plain && is_plain_at(pieces, place);
         is_sure = is_sure
             || is_known_at(pieces, place)
             || is_of_long_figure(pieces, place)

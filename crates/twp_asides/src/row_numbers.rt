@@ -7,8 +7,8 @@ use twp_grammar::Kind;
 const SECTIONS: u16 = 36;
 
 impl<'a> Pieces<'a> {
-    /// Where the number of an item at the beginning of a line ends, with its mark, as `2.`, or `1)`: a township, a section,
-    /// or a tract follows it, and the text begins with such a number.
+    /// Where the number of an item at the beginning of a line ends, with its mark, as `2.`, or
+    /// `1)`: a township, a section, or a tract follows it, and the text begins with such a number.
     pub fn end_of_item_number(&self, index: usize) -> Option<usize> {
         let next = plus(index, 2);
         let is_item = self.is_number_with_mark(index)
@@ -30,7 +30,8 @@ impl<'a> Pieces<'a> {
         }
     }
 
-    /// Whether a number of one or two digits, or a letter, is at an index, with a period or a parenthesis joined to it.
+    /// Whether a number of one or two digits, or a letter, is at an index, with a period or a
+    /// parenthesis joined to it.
     fn is_number_with_mark(&self, index: usize) -> bool {
         let mark = plus(index, 1);
         let is_letter = self.size(index) == 1
@@ -55,8 +56,8 @@ impl<'a> Pieces<'a> {
         false
     }
 
-    /// Whether the code of a meridian is at an index, in a cell of its own before those of a township, a range, and a
-    /// section, as `08,2N,3W,026`.
+    /// Whether the code of a meridian is at an index, in a cell of its own before those of a
+    /// township, a range, and a section, as `08,2N,3W,026`.
     pub fn is_meridian_cell(&self, index: usize) -> bool {
         let township = plus(index, 2);
         let range = plus(index, 5);
@@ -74,8 +75,8 @@ impl<'a> Pieces<'a> {
         self.number(index).is_some() && self.is_joined(index) && self.follows(index, b",")
     }
 
-    /// Where the number of a row ends, which is in the first field of its line, before a township, and too large for a
-    /// section.
+    /// Where the number of a row ends, which is in the first field of its line, before a township,
+    /// and too large for a section.
     pub fn end_of_row_id(&self, index: usize) -> Option<usize> {
         let comma = plus(index, 1);
         let tier = plus(comma, 1);

@@ -27,8 +27,8 @@ impl<'a> Pieces<'a> {
         }
     }
 
-    /// Whether the letters of a state, and the code of its meridian, are at an index, as in `ID08 T0020N R0030W`,
-    /// before a township of a register with its letter.
+    /// Whether the letters of a state, and the code of its meridian, are at an index, as in
+    /// `ID08 T0020N R0030W`, before a township of a register with its letter.
     fn is_state_and_code(&self, index: usize) -> bool {
         let code = plus(index, 1);
         let letter = plus(index, 2);

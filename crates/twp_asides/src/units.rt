@@ -12,8 +12,8 @@ const SECTIONS: u16 = 36;
 const UNIT_MOST: usize = 6;
 
 impl<'a> Pieces<'a> {
-    /// Where the acreage of a unit at an index ends, as `160 ac unit`, or `640-acre spacing unit`: after land, at the
-    /// end of its line, or before land, with a colon.
+    /// Where the acreage of a unit at an index ends, as `160 ac unit`, or `640-acre spacing unit`:
+    /// after land, at the end of its line, or before land, with a colon.
     pub fn end_of_unit(&self, index: usize, names_land: bool) -> Option<usize> {
         let first = self.after_lead_of_unit(index);
         let number = self.number(first)?;

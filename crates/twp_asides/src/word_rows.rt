@@ -1,5 +1,5 @@
-//! The rows of fixed words before land and after it, in the order of their first letters. Of two rows, the longer one
-//! comes first if it begins with the other.
+//! The rows of fixed words before land and after it, in the order of their first letters. Of two
+//! rows, the longer one comes first if it begins with the other.
 
 /// The most bytes of such words.
 pub(crate) const WORDS_MOST: usize = 51;

@@ -8,16 +8,16 @@ use twp_words::is_acres;
 const PIECES_MOST: usize = 12;
 
 impl<'a> Pieces<'a> {
-    /// The value of the number at an index of whose digits scanning made letters, in hundredths, and the index
-    /// after it.
+    /// The value of the number at an index of whose digits scanning made letters, in hundredths,
+    /// and the index after it.
     pub fn worn_figure(&self, index: usize) -> Option<(u64, usize)> {
         let end = self.end_of_worn_figure(index)?;
         let bytes = self.text.get(self.start(index)..self.end_before(end));
         Some((hundredths_of(bytes.unwrap_or(b""))?, end))
     }
 
-    /// Where the number at an index ends of whose digits scanning made letters, before the unit of acreage, as in
-    /// `l57.2O acres`.
+    /// Where the number at an index ends of whose digits scanning made letters, before the unit of
+    /// acreage, as in `l57.2O acres`.
     pub fn end_of_worn_figure(&self, index: usize) -> Option<usize> {
         // Most numbers have white space after them.
         if !self.is_joined(plus(index, 1)) {
@@ -46,7 +46,8 @@ impl<'a> Pieces<'a> {
     }
 }
 
-/// The value of digits, or of the letters that scanning makes of them, in hundredths. Further decimals don't count.
+/// The value of digits, or of the letters that scanning makes of them, in hundredths. Further
+/// decimals don't count.
 fn hundredths_of(bytes: &[u8]) -> Option<u64> {
     let mut value: u64 = 0;
     let mut decimals: usize = 0;

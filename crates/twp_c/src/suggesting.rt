@@ -1,4 +1,5 @@
-//! The calls for readings, also by a lot table, for what is unread, and for phrases that aren't land, as C calls them.
+//! The calls for readings, also by a lot table, for what is unread, and for phrases that aren't
+//! land, as C calls them.
 ghost use Rattle.std.specs.Prelude.{◌≡◌, ◌≢◌};
 ghost use Rattle.twp_calls.specs.Answers.{ACCEPTED, NO_LOTS, NO_MEMORY};
 ghost use Rattle.twp_calls.specs.SetAsides.{IsSetAsideCall};
@@ -30,7 +31,8 @@ pub extern "C" fn township_suggest(
     twp_calls::township_suggest(alloc, description, readings, changes, bytes, suggestion)
 }
 
-/// The readings of a text as descriptions on the plat of a lot table: where the text of each is, and its changes.
+/// The readings of a text as descriptions on the plat of a lot table: where the text of each is,
+/// and its changes.
 #[unsafe(no_mangle)]
 pub extern "C" fn township_lots_suggest(
     alloc: Global,

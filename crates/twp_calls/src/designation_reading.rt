@@ -11,9 +11,9 @@ use twp_grammar::first_token;
 use twp_grid::{Refusal, Township};
 use twp_read::TEXT_LIMIT;
 
-/// The township that a text spells: as in the heading of a description, in words, or as registers write it.
-/// Otherwise the refusal, 31 to 35 at the place of the token that no spelling has there, or at the end of the text;
-/// or 36, if the text is too large.
+/// The township that a text spells: as in the heading of a description, in words, or as registers
+/// write it. Otherwise the refusal, 31 to 35 at the place of the token that no spelling has there,
+/// or at the end of the text; or 36, if the text is too large.
 pub fn read_designation(text: &[u8]) -> Result<Township, Refusal>
     ensures spelled { IfOk result (IsSpelling text.now) }
     ensures taken { (township : Designation) → IsSpelling text.now township → result ≡ Ok township }
@@ -35,8 +35,8 @@ pub fn read_designation(text: &[u8]) -> Result<Township, Refusal>
     }
 }
 
-/// What was read of a text: the parts so far, the place of the token that no spelling has there, or of the text's
-/// end, and whether the tokens are those of a spelling.
+/// What was read of a text: the parts so far, the place of the token that no spelling has there, or
+/// of the text's end, and whether the tokens are those of a spelling.
 #[derive(Clone, Copy)]
 struct DesignationProgress {
     parts: DesignationParts,

@@ -5,8 +5,8 @@ ghost use Rattle.twp_calls.specs.steps.DesignationSteps.{next_stage, ends_spelli
 
 use crate::designation_mark::DesignationMark;
 
-/// How far the tokens so far are into a township's name, named after the last token. These are the stages of the
-/// machine that reads the spellings.
+/// How far the tokens so far are into a township's name, named after the last token. These are the
+/// stages of the machine that reads the spellings.
 #[derive(Clone, Copy, PartialEq, Eq)]
 pub enum DesignationStage {
     /// Before the first token.

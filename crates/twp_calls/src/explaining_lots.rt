@@ -1,5 +1,5 @@
-//! Explanations for C of refusals by lot tables: of bytes that are no lot table, and of land with a lot that a
-//! table lacks.
+//! Explanations for C of refusals by lot tables: of bytes that are no lot table, and of land with a
+//! lot that a table lacks.
 ghost use Rattle.std.specs.Prelude.{◌≡◌, [], MatchOption};
 ghost use Rattle.twp_calls.specs.Answers.{IsRefused};
 ghost use Rattle.twp_calls.specs.LotExplanations.{ExplainsLacking, ExplainsLots, IsLackingAt};

@@ -15,9 +15,9 @@ use twp_phrases::{first_of_land, set_aside};
 /// The most bytes of phrases, and the most phrases.
 const PHRASES_LIMIT: usize = 65_536;
 
-/// Where phrases stand in a text that the caller says aren't land, such as an office's own labels. They are given as
-/// bytes in a row: the first phrase is from the first offset to the second, the next from there to the third, and
-/// so on.
+/// Where phrases stand in a text that the caller says aren't land, such as an office's own labels.
+/// They are given as bytes in a row: the first phrase is from the first offset to the second, the
+/// next from there to the third, and so on.
 pub fn township_set_aside(
     alloc: Global,
     description: &[u8],

@@ -1,5 +1,5 @@
-//! The readings of a text that isn't a description, or can be read in several ways, on a plat with the standard lots, or
-//! with any others.
+//! The readings of a text that isn't a description, or can be read in several ways, on a plat with
+//! the standard lots, or with any others.
 ghost use Rattle.std.specs.Prelude.{◌≡◌, ◌≢◌, ◌≤◌, IfOk, length};
 ghost use Rattle.twp_grid.specs.Lands.{lotting};
 ghost use Rattle.twp_calls.specs.Answers.{ACCEPTED, NO_LOTS, NO_MEMORY};

@@ -10,8 +10,9 @@ use crate::suggestion::{TownshipChange, TownshipReading, TownshipSuggestion};
 use crate::verdict::NO_LOTS;
 use std::alloc::Global;
 
-/// The readings of a text as descriptions on the plat of a lot table: where the text of each is, and its changes. The
-/// township of the table doesn't matter: a text keeps its reading if it names another one.
+/// The readings of a text as descriptions on the plat of a lot table: where the text of each is,
+/// and its changes. The township of the table doesn't matter: a text keeps its reading if it names
+/// another one.
 pub fn township_lots_suggest(
     alloc: Global,
     lots: &TownshipLots,

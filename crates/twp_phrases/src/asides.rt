@@ -185,8 +185,8 @@ impl<'a> Finder<'a> {
         Some((LeftOut::Label, end))
     }
 
-    /// Where a label at an index ends that is looked for before acreage. A word of two letters or more is no number of
-    /// a row or an item, and only a number is a share or a term.
+    /// Where a label at an index ends that is looked for before acreage. A word of two letters or
+    /// more is no number of a row or an item, and only a number is a share or a term.
     fn end_of_label_by_kind(&self, index: usize, is_figure: bool) -> Option<usize> {
         let pieces = &self.draft.pieces;
         let is_word = matches!(pieces.kind(index), Kind::Other) && pieces.size(index) > 1;
@@ -262,8 +262,8 @@ impl<'a> Finder<'a> {
         Some((LeftOut::Acreage, end))
     }
 
-    /// Whether a whole number after a township that isn't that of a section before it, with more of its row after
-    /// it, may be that of a section with a slip.
+    /// Whether a whole number after a township that isn't that of a section before it, with more of
+    /// its row after it, may be that of a section with a slip.
     fn may_be_wrong_section(&self, index: usize, end: usize) -> bool {
         let pieces = &self.draft.pieces;
         let is_after_heading = match self.draft.phrases.as_slice() {
@@ -369,8 +369,8 @@ impl<'a> Finder<'a> {
         )
     }
 
-    /// Where the lots and parts at an index end, which commas, `and`, or white space divide, as in `(L1 L2 E2NW, NE)`; or
-    /// one part, of which white space may be between two steps.
+    /// Where the lots and parts at an index end, which commas, `and`, or white space divide, as in
+    /// `(L1 L2 E2NW, NE)`; or one part, of which white space may be between two steps.
     fn lands_in_pieces(&mut self, index: usize) -> Option<usize> {
         let is_list = self.is_lot_at(index);
         if !is_list {

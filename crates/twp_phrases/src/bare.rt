@@ -5,7 +5,6 @@ use twp_asides::plus;
 use twp_draft::{Form, LeftOut, PhraseKind, WrittenNumber};
 use twp_grammar::Kind;
 use twp_rules::Rule;
-use twp_words::{is_acres, is_of_time, is_same};
 
 /// The most phrases among which the label of a tract is looked for.
 const PHRASES_MOST: usize = 8;
@@ -127,8 +126,9 @@ impl<'a> Finder<'a> {
         is_after_land && is_last && self.is_number_of_no_half(digits)
     }
 
-    /// Whether the letter and the number at an index, before a township that ends at another, may be a half of a
-    /// section that was named, or of one that is missing: `S2`, unless land follows. After land, `S4` isn't one.
+    /// Whether the letter and the number at an index, before a township that ends at another, may
+    /// be a half of a section that was named, or of one that is missing: `S2`, unless land follows.
+    /// After land, `S4` isn't one.
     fn may_be_half(&self, index: usize, heading: Option<usize>) -> bool {
         let pieces = &self.draft.pieces;
         let digits = plus(index, 1);
@@ -258,7 +258,8 @@ impl<'a> Finder<'a> {
                 && (self.is_before_dash_or_except(next) || self.ends_number(next)))
     }
 
-    /// Whether the number at an index is before a township, and no land before it, as in `GRAZING LAND 11 2N 3W`.
+    /// Whether the number at an index is before a township, and no land before it, as in
+    /// `GRAZING LAND 11 2N 3W`.
     fn is_first_before_tier(&self, index: usize) -> bool {
         let pieces = &self.draft.pieces;
         let next = plus(index, 1);
@@ -276,24 +277,17 @@ impl<'a> Finder<'a> {
             || (self.draft.pieces.is_dash(index) && !self.draft.pieces.is_joined(index))
     }
 
-    /// Whether the piece at an index makes nothing else of the number before it, after a part and `of`: it is no unit, no
-    /// name, and isn't joined to it.
+    /// Whether a mark or a new column ends the number of a section before an index, after a part
+    /// and `of`: a word may say what the number counts.
     fn ends_number(&self, index: usize) -> bool {
         let pieces = &self.draft.pieces;
-        let is_mark = pieces.is(index, b",")
+        pieces.begins_column(index)
+            || pieces.is(index, b",")
             || pieces.is(index, b";")
             || pieces.is(index, b"?")
             || pieces.is(index, b"!")
             || pieces.is(index, b")")
-            || (pieces.is(index, b".") && !pieces.is_joined(plus(index, 1)));
-        let is_count = match pieces.kind(index) {
-            Kind::Lot | Kind::Of | Kind::Number(_) | Kind::BadNumber | Kind::All => true,
-            Kind::Other => {
-                is_unit(pieces.lower(index)) || matches!(pieces.bytes(index), [b'A'..=b'Z', ..])
-            }
-            _ => false,
-        };
-        is_mark || !(is_count || pieces.is_joined(index))
+            || (pieces.is(index, b".") && !pieces.is_joined(plus(index, 1)))
     }
 
     /// Whether the piece at an index begins a row.
@@ -301,8 +295,9 @@ impl<'a> Finder<'a> {
         self.draft.pieces.begins_line(index) || self.draft.pieces.follows(index, b";")
     }
 
-    /// Whether the number at an index is alone in a cell, after land that is in the cell after a township, as in the
-    /// rows of the Mineral and Land Records System: the row has no other section.
+    /// Whether the number at an index is alone in a cell, after land that is in the cell after a
+    /// township, as in the rows of the Mineral and Land Records System: the row has no other
+    /// section.
     fn is_cell_of_section(&self, index: usize) -> bool {
         let pieces = &self.draft.pieces;
         let is_cell = pieces.has_before(index, b'\t') && pieces.has_before(plus(index, 1), b'\t');
@@ -406,15 +401,7 @@ impl<'a> Finder<'a> {
             // Alone on its line, it may be that of a page.
             return Some(next < pieces.len() && !pieces.has_before(next, b'\n'));
         }
-        let is_after_acreage = self.draft.last_kind()
-            == Some(PhraseKind::Nothing(LeftOut::Acreage));
-        if is_after_acreage
-            && self.names_land
-            && !pieces.is_joined(index)
-            && !pieces.is_joined(next)
-            && !is_after_comma
-            && pieces.begins_tier(next)
-        {
+        if self.is_between_acreage_and_tier(index) {
             return Some(true);
         }
         if self.draft.last_kind() != Some(PhraseKind::Part)
@@ -429,8 +416,21 @@ impl<'a> Finder<'a> {
         None
     }
 
-    /// Whether land is in the cell at an index, also after a quote or the words for government lots, or in the next
-    /// one, after the name of the column for aliquot parts.
+    /// Whether the number at an index stands between an acreage after land and a township, as in
+    /// `NW 160 acres 14 2N 3W`.
+    fn is_between_acreage_and_tier(&self, index: usize) -> bool {
+        let pieces = &self.draft.pieces;
+        let next = plus(index, 1);
+        self.draft.last_kind() == Some(PhraseKind::Nothing(LeftOut::Acreage))
+            && self.names_land
+            && !pieces.is_joined(index)
+            && !pieces.is_joined(next)
+            && !pieces.follows(index, b",")
+            && pieces.begins_tier(next)
+    }
+
+    /// Whether land is in the cell at an index, also after a quote or the words for government
+    /// lots, or in the next one, after the name of the column for aliquot parts.
     pub(crate) fn is_land_of_cell(&self, index: usize) -> bool {
         let pieces = &self.draft.pieces;
         let first = plus(index, usize::from(pieces.is(index, b"\"")));
@@ -452,28 +452,4 @@ impl<'a> Finder<'a> {
             || pieces.is(index, b"and")
             || pieces.is(index, b"&")
     }
-}
-
-/// Whether a word is for what a number before it counts, and no land.
-fn is_unit(word: &[u8]) -> bool {
-    is_acres(word)
-        || is_of_time(word)
-        || is_same(word, b"mile")
-        || is_same(word, b"miles")
-        || is_same(word, b"feet")
-        || is_same(word, b"foot")
-        || is_same(word, b"ft")
-        || is_same(word, b"rod")
-        || is_same(word, b"rods")
-        || is_same(word, b"chain")
-        || is_same(word, b"chains")
-        || is_same(word, b"percent")
-        || is_same(word, b"tracts")
-        || is_same(word, b"parcels")
-        || is_same(word, b"parts")
-        || is_same(word, b"shares")
-        || is_same(word, b"equal")
-        || is_same(word, b"quarters")
-        || is_same(word, b"halves")
-        || is_same(word, b"forties")
 }

@@ -28,7 +28,8 @@ impl<'a> Finder<'a> {
         Ok(())
     }
 
-    /// Whether the phrase at an index is a number after a part, and nothing says that it is that of a section.
+    /// Whether the phrase at an index is a number after a part, and nothing says that it is that of
+    /// a section.
     fn is_bare_after_part(&self, index: usize) -> bool {
         let Some(placed) = self.draft.phrases.get(index) else {
             return false;

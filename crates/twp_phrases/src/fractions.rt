@@ -186,8 +186,8 @@ impl<'a> Finder<'a> {
         None
     }
 
-    /// Whether a letter that scanning makes of the fraction of a quarter is at an index, apart, and `of` or `and` after it,
-    /// as in `S E J of the N W i of`.
+    /// Whether a letter that scanning makes of the fraction of a quarter is at an index, apart, and
+    /// `of` or `and` after it, as in `S E J of the N W i of`.
     fn is_letter_before_of(&self, index: usize) -> bool {
         let pieces = &self.draft.pieces;
         let next = plus(index, 1);
@@ -195,7 +195,8 @@ impl<'a> Finder<'a> {
             && (pieces.is(next, b"of") || pieces.is(next, b"and"))
     }
 
-    /// Where the mark at an index ends that scanning makes of the fraction of a quarter, with a digit or a letter, if any.
+    /// Where the mark at an index ends that scanning makes of the fraction of a quarter, with a
+    /// digit or a letter, if any.
     fn end_of_marked_quarter(&self, index: usize) -> Option<usize> {
         let pieces = &self.draft.pieces;
         let next = plus(index, 1);
@@ -288,8 +289,9 @@ impl<'a> Finder<'a> {
                 || pieces.follows(index, b"."))
     }
 
-    /// Whether a fraction whose slash was read as a `1` is at an index, as in `NE114`, or `NE 114 of the SW 114`: with an
-    /// `of` before or after its letters, or joined to them, since it may be acreage.
+    /// Whether a fraction whose slash was read as a `1` is at an index, as in `NE114`, or
+    /// `NE 114 of the SW 114`: with an `of` before or after its letters, or joined to them, since
+    /// it may be acreage.
     fn is_worn_slash(&self, index: usize, size: Size) -> bool {
         let pieces = &self.draft.pieces;
         let is_worn = match size {

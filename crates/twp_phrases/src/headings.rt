@@ -264,8 +264,8 @@ impl<'a> Finder<'a> {
         Some(side)
     }
 
-    /// Whether a number of three digits before a side may be two that lost the mark between them, as in `082N,3W`: the
-    /// range has other digits.
+    /// Whether a number of three digits before a side may be two that lost the mark between them,
+    /// as in `082N,3W`: the range has other digits.
     fn is_of_two_numbers(&self, index: usize, side: usize) -> bool {
         let pieces = &self.draft.pieces;
         let next = plus(side, 1);

@@ -5,7 +5,8 @@ use twp_asides::plus;
 use twp_draft::PhraseKind;
 
 impl<'a> Finder<'a> {
-    /// Whether the letter and the number at an index fill a cell after a township, and no half has such a number.
+    /// Whether the letter and the number at an index fill a cell after a township, and no half has
+    /// such a number.
     pub(crate) fn is_letter_in_cell(&self, index: usize) -> bool {
         let pieces = &self.draft.pieces;
         let digits = plus(index, 1);
@@ -16,7 +17,8 @@ impl<'a> Finder<'a> {
             && !may_be_half
     }
 
-    /// Whether the letter and the number at an index are before a colon and land, and no half has such a number.
+    /// Whether the letter and the number at an index are before a colon and land, and no half has
+    /// such a number.
     pub(crate) fn is_letter_before_colon(&self, index: usize) -> bool {
         let pieces = &self.draft.pieces;
         let digits = self.digits_of_letter(index);
@@ -28,8 +30,9 @@ impl<'a> Finder<'a> {
             && (pieces.begins_land(plus(colon, 1)) || pieces.is(plus(colon, 1), b"l"))
     }
 
-    /// Whether the number at an index, of two digits, begins an item with a hyphen and land after it, after a semicolon and
-    /// the land of a section with a hyphen, as in `14-NENE; 15-S2; 22-ALL`.
+    /// Whether the number at an index, of two digits, begins an item with a hyphen and land after
+    /// it, after a semicolon and the land of a section with a hyphen, as in
+    /// `14-NENE; 15-S2; 22-ALL`.
     pub(crate) fn is_next_item(&self, index: usize) -> bool {
         let pieces = &self.draft.pieces;
         let next = plus(index, 1);

@@ -1,6 +1,7 @@
-//! How the phrases of a text are found that people write as a description of land, and the changes in them.
-//! None of this is trusted: each change is checked against its rule, and the text that they make is read. Of a
-//! text without readings, the words that no phrase covers are found (`unread`), with a contract (`stretches`).
+//! How the phrases of a text are found that people write as a description of land, and the changes
+//! in them. None of this is trusted: each change is checked against its rule, and the text that
+//! they make is read. Of a text without readings, the words that no phrase covers are found
+//! (`unread`), with a contract (`stretches`).
 #![tactic(auto)]
 
 mod asides;

@@ -35,8 +35,8 @@ impl<'a> Finder<'a> {
         Some(self.draft.add(PhraseKind::Lots, index, end, from))
     }
 
-    /// Whether three or more numbers, each one more than the last, are at an index, after a letter for lots and white
-    /// space: `L 1 2 3 4`, or `L 5 6 & 7`.
+    /// Whether three or more numbers, each one more than the last, are at an index, after a letter
+    /// for lots and white space: `L 1 2 3 4`, or `L 5 6 & 7`.
     fn is_before_row_of_lots(&self, index: usize) -> bool {
         let pieces = &self.draft.pieces;
         let second = plus(index, 1);
@@ -107,8 +107,8 @@ impl<'a> Finder<'a> {
         Some(next)
     }
 
-    /// Whether the rest of the name of a column for lots and tracts is at an index, as in `Lot/Trct 6`: a tract of a
-    /// resurvey has a larger number than a lot.
+    /// Whether the rest of the name of a column for lots and tracts is at an index, as in
+    /// `Lot/Trct 6`: a tract of a resurvey has a larger number than a lot.
     fn is_before_tract(&self, index: usize) -> bool {
         let pieces = &self.draft.pieces;
         let tract = plus(index, 1);

@@ -25,7 +25,8 @@ impl<'a> Finder<'a> {
         self.section_of_register(index)
     }
 
-    /// Whether the 0 that ends the code of a township is at an index, as in `ID080020N0030W0`: it is no duplicate.
+    /// Whether the 0 that ends the code of a township is at an index, as in `ID080020N0030W0`: it
+    /// is no duplicate.
     pub(crate) fn ends_code(&self, index: usize) -> bool {
         let pieces = &self.draft.pieces;
         pieces.is(index, b"0")

@@ -235,8 +235,8 @@ impl<'a> Finder<'a> {
         next
     }
 
-    /// Leaves out a name and an equals sign at an index, between a word and its number, and writes a space for the bar
-    /// before them.
+    /// Leaves out a name and an equals sign at an index, between a word and its number, and writes
+    /// a space for the bar before them.
     pub(crate) fn leave_out_name(&mut self, index: usize) {
         let (name, mark) = (plus(index, 1), plus(index, 2));
         self.draft.replace(index, b" ", Rule::Heading);

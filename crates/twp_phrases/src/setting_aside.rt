@@ -1,4 +1,5 @@
-//! Phrases that somebody says aren't land, such as an office's own labels and remarks: where they are in a text.
+//! Phrases that somebody says aren't land, such as an office's own labels and remarks: where they
+//! are in a text.
 ghost use Rattle.std.specs.Prelude.{◌≡◌, ◌≤◌, ◌<◌, ◌+◌, IfOk, IfSome, MatchOption, length, map, option_map};
 ghost use Rattle.twp_phrases.specs.SetAside.{AreRemarks, AreSetAside, IsFirstOfLand, is_at, is_within_word};
 ghost use Rattle.twp_phrases.specs.SetAside.{phrase_at};
@@ -7,8 +8,8 @@ use crate::stretches::Stretch;
 use std::alloc::{AllocError, Global};
 use twp_rules::{byte_at, byte_before, is_remark};
 
-/// The first phrase that can't be set aside, by its index, since it names land, or says where land ends or what
-/// is taken from it.
+/// The first phrase that can't be set aside, by its index, since it names land, or says where land
+/// ends or what is taken from it.
 pub fn first_of_land(phrases: &[&[u8]]) -> Option<usize>
     ensures { MatchOption result (AreRemarks (map (λ phrase. phrase.now) phrases.now))
         (IsFirstOfLand (map (λ phrase. phrase.now) phrases.now)) }
@@ -21,8 +22,8 @@ pub fn first_of_land(phrases: &[&[u8]]) -> Option<usize>
     None
 }
 
-/// The places of the phrases in a text, from left to right: at each place past the last of them, the first phrase
-/// that is there, in letters of either case, as whole words.
+/// The places of the phrases in a text, from left to right: at each place past the last of them,
+/// the first phrase that is there, in letters of either case, as whole words.
 pub fn set_aside(alloc: Global, text: &[u8], phrases: &[&[u8]]) -> Result<Vec<Stretch>, AllocError>
     ensures { IfOk result (λ it.
         AreSetAside (map (λ phrase. phrase.now) phrases.now) text.now it.items) }

@@ -29,7 +29,8 @@ impl<'a> Finder<'a> {
         }
     }
 
-    /// Whether a comma between two cells is at an index, the second of which has land, as in `Aliquot,"NENE"`.
+    /// Whether a comma between two cells is at an index, the second of which has land, as in
+    /// `Aliquot,"NENE"`.
     fn is_before_cell_of_land(&self, index: usize) -> bool {
         let pieces = &self.draft.pieces;
         let next = plus(index, 1);
@@ -73,7 +74,8 @@ impl<'a> Finder<'a> {
         )
     }
 
-    /// Whether a run of known words after land, without a mark between them, ends its line, as in `NENE Sec 14 AUTHORIZED`.
+    /// Whether a run of known words after land, without a mark between them, ends its line, as in
+    /// `NENE Sec 14 AUTHORIZED`.
     fn is_last_run(&self, index: usize, end: usize) -> bool {
         let is_beside = match self.draft.phrases.last() {
             Some(placed) => placed.phrase.end == index,
@@ -82,7 +84,8 @@ impl<'a> Finder<'a> {
         is_beside && (end >= self.draft.pieces.len() || self.draft.pieces.begins_line(end))
     }
 
-    /// Whether a run of known words may begin at an index: after a mark, or what is left out, or in parentheses.
+    /// Whether a run of known words may begin at an index: after a mark, or what is left out, or in
+    /// parentheses.
     fn may_be_known_run(&self, index: usize) -> bool {
         let pieces = &self.draft.pieces;
         let is_after_aside = match self.draft.phrases.last() {

@@ -43,8 +43,8 @@ pub(crate) fn keep_apart(text: &[u8], changes: &[Change<'_>]) -> bool
     is_apart_at(seam, after(text, at))
 }
 
-/// Whether the text before a change, and the text that the change writes, are each kept apart from what was written
-/// before them, and no run of steps is split.
+/// Whether the text before a change, and the text that the change writes, are each kept apart from
+/// what was written before them, and no run of steps is split.
 fn is_apart(text: &[u8], seam: Seam, near: Seam, gap: &[u8], change: &Change<'_>) -> bool
     requires { change.now.start ≤ length text.now }
     ensures { result ≡ (is_apart_at seam gap.now && is_apart_at near change.now.written.now

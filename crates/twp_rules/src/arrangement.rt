@@ -26,8 +26,8 @@ use twp_grammar::Item;
 /// Of fewer marks, a list of the sections among them takes longer than it saves.
 const MARKS_FEW: usize = 16;
 
-/// Whether all land of a changed text lies with the section that the text gives it to. The items are those of the changed
-/// text from an offset on.
+/// Whether all land of a changed text lies with the section that the text gives it to. The items
+/// are those of the changed text from an offset on.
 #[tactic(auto, using(crate::proofs::AloneFacts::alone_lies, crate::proofs::SectionFacts::lie_by_sections))]
 pub fn lie_with_sections(
     alloc: Global,
@@ -52,8 +52,9 @@ pub fn lie_with_sections(
     Ok(lie(text, sections.as_slice(), marks.as_slice()))
 }
 
-/// The sections among marks. They are compared with each piece of land, and land with none, so a list of them alone
-/// saves most of the comparisons. A single section is named twice, as the first and the last of a list.
+/// The sections among marks. They are compared with each piece of land, and land with none, so a
+/// list of them alone saves most of the comparisons. A single section is named twice, as the first
+/// and the last of a list.
 fn sections_of(alloc: Global, marks: &[Mark]) -> Result<Vec<Mark>, AllocError>
     ensures { IfOk result (λ it. it.items ≡ sections_of marks.now) }
 {

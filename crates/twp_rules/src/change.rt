@@ -39,7 +39,8 @@ pub fn changed(alloc: Global, text: &[u8], changes: &[Change<'_>]) -> Result<Vec
     Ok(made)
 }
 
-/// Appends bytes to a text. Usually there are none, since changes touch each other, or only leave something out.
+/// Appends bytes to a text. Usually there are none, since changes touch each other, or only leave
+/// something out.
 fn append(made: &mut Vec<u8>, bytes: &[u8]) -> Result<(), AllocError>
     ensures { OnOk result (made.new.items ≡ made.old.items ++ bytes.now) }
 {
@@ -67,8 +68,8 @@ fn after(text: &[u8], from: usize) -> &[u8]
     rest
 }
 
-/// Whether changes are from left to right, don't overlap, are allowed by their rules, keep numbers, keep parts apart,
-/// and write what they move. Each is looked for by itself, in a loop of its own.
+/// Whether changes are from left to right, don't overlap, are allowed by their rules, keep numbers,
+/// keep parts apart, and write what they move. Each is looked for by itself, in a loop of its own.
 pub fn are_changes(text: &[u8], changes: &[Change<'_>]) -> bool
     ensures { result ≡ true → MayBeMade text.now (map seen changes.now) }
 {

@@ -122,8 +122,9 @@ fn is_meridian(seen: &[u8], after: &[u8]) -> bool
         && names_only_place(seen, after)
 }
 
-/// Whether a text names no land; limits none, unless it is the letters of a meridian; and has no number that may be
-/// that of a section, unless it is a meridian's code before a township. Most such texts are remarks.
+/// Whether a text names no land; limits none, unless it is the letters of a meridian; and has no
+/// number that may be that of a section, unless it is a meridian's code before a township. Most
+/// such texts are remarks.
 #[tactic(auto, using(crate::proofs::SayingFacts::remark_names_place))]
 fn names_only_place(seen: &[u8], after: &[u8]) -> bool
     ensures { result ≡ (has_no_land seen.now

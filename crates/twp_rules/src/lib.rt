@@ -1,5 +1,5 @@
-//! The rules by which a text that people write is changed into a description of land: changes of a text, whether the
-//! rule of each allows it, and the text that they make.
+//! The rules by which a text that people write is changed into a description of land: changes of a
+//! text, whether the rule of each allows it, and the text that they make.
 #![tactic(auto)]
 
 mod allowed;

@@ -1,4 +1,5 @@
-/// What a changed text names, with its place in the text: the number of a section, or land in the section named last.
+/// What a changed text names, with its place in the text: the number of a section, or land in the
+/// section named last.
 #[derive(Clone, Copy)]
 pub(crate) enum Mark {
     /// A section's number, and its place.

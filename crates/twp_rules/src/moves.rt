@@ -21,8 +21,8 @@ use crate::same::begins_with;
 use crate::words::numbers::*;
 use crate::words::sections::*;
 
-/// Whether each number of the text that is moved is written elsewhere. In most texts, each is copied, or nothing is
-/// moved, and then it doesn't matter what was named last.
+/// Whether each number of the text that is moved is written elsewhere. In most texts, each is
+/// copied, or nothing is moved, and then it doesn't matter what was named last.
 #[tactic(auto, using(crate::proofs::ChangeFacts::next_moved, crate::proofs::ChangeFacts::not_written, crate::proofs::ChangeFacts::start_within, crate::proofs::ChangeFacts::end_within, crate::proofs::MoveFacts::all_are_copied))]
 pub(crate) fn is_moved_text_written(text: &[u8], changes: &[Change<'_>]) -> bool
     requires { AreChangesFrom 0 text.now (map seen changes.now) }
@@ -174,16 +174,16 @@ fn is_digit_at(text: &[u8], start: usize, at: usize) -> bool
         && !is_in_word(rest_of(text, at))
 }
 
-/// Whether the digit with which a text begins is of a word for a section: that of a register, or one with a damaged
-/// letter.
+/// Whether the digit with which a text begins is of a word for a section: that of a register, or
+/// one with a damaged letter.
 fn is_in_word(rest: &[u8]) -> bool
     ensures { result ≡ begins_with_one rest.now (words (codes "0sn 5ec 8ec")) }
 {
     begins_with(rest, b"0sn") || begins_with(rest, b"5ec") || begins_with(rest, b"8ec")
 }
 
-/// The place of the first digit of a number that isn't 0, or of its first 0 if it has no other digit, or of the word
-/// for it.
+/// The place of the first digit of a number that isn't 0, or of its first 0 if it has no other
+/// digit, or of the word for it.
 fn first_place(text: &[u8], at: usize) -> usize
     ensures { result ≡ first_place text.now at }
 {
@@ -194,7 +194,8 @@ fn first_place(text: &[u8], at: usize) -> usize
     at
 }
 
-/// Whether the number at a place is that of the section named last, or of the township or range with its side.
+/// Whether the number at a place is that of the section named last, or of the township or range
+/// with its side.
 fn is_named_last(text: &[u8], role: NumberRole, it: Named, at: usize) -> bool
     requires { at < length text.now }
     ensures { result ≡ is_named_last text.now role it at }

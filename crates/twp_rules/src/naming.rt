@@ -86,8 +86,8 @@ pub(crate) fn has_no_bare_number(seen: &[u8]) -> bool
     true
 }
 
-/// Whether a number at a place, if there is one, belongs to something other than a section or a lot. The word before it
-/// is the one with which `named` begins.
+/// Whether a number at a place, if there is one, belongs to something other than a section or a
+/// lot. The word before it is the one with which `named` begins.
 pub(crate) fn is_explained_at(seen: &[u8], at: usize, named: &[u8]) -> bool
     requires { at ≤ length seen.now }
     ensures { result ≡ is_explained_at seen.now at (word_of named.now) (drop at seen.now) }

@@ -18,8 +18,8 @@ pub(crate) struct FollowedPlace {
     pub(crate) cursor: Cursor,
 }
 
-/// What items name, with its places in the text. The items are those of the changed text from an offset on. None if they
-/// don't go from left to right.
+/// What items name, with its places in the text. The items are those of the changed text from an
+/// offset on. None if they don't go from left to right.
 pub(crate) fn marks_of(
     alloc: Global,
     changes: &[Change<'_>],
@@ -111,8 +111,8 @@ fn add_land(
     Ok(Some(spot.cursor))
 }
 
-/// The origin of the byte at an offset, and how far the changed text was followed for it. None if that offset is before
-/// what was followed.
+/// The origin of the byte at an offset, and how far the changed text was followed for it. None if
+/// that offset is before what was followed.
 pub(crate) fn found(
     changes: &[Change<'_>],
     base: usize,
@@ -158,7 +158,8 @@ fn advanced(changes: &[Change<'_>], from: Cursor, offset: usize) -> Cursor
     cursor
 }
 
-/// The origin of the byte at an offset, if that is before the end of what the next change writes, or after all changes.
+/// The origin of the byte at an offset, if that is before the end of what the next change writes,
+/// or after all changes.
 fn place_from(changes: &[Change<'_>], from: Cursor, offset: usize) -> Option<usize>
     requires followed { IsFollowed changes.now from }
     requires order { from.offset ≤ offset }

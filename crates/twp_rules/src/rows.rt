@@ -1,9 +1,10 @@
-//! Rows of the rules' tables, and what is in them. A table is an array of rows, and a row is an array of bytes, without
-//! a pointer, since each pointer of static data is set at every start of the program. All rows of a table have as many
-//! bytes, filled up with `_`. One function goes through the rows of all tables of a kind, so a row is data, and needs
-//! no proof of its own. The numbers with a table have a bit for the first byte of each row, for the second, and for the
-//! third: with a wrong number, the proof fails. The few tables in which most changes are looked up are written out
-//! instead, which takes a third of the instructions, and a proof of each.
+//! Rows of the rules' tables, and what is in them. A table is an array of rows, and a row is an
+//! array of bytes, without a pointer, since each pointer of static data is set at every start of
+//! the program. All rows of a table have as many bytes, filled up with `_`. One function goes
+//! through the rows of all tables of a kind, so a row is data, and needs no proof of its own. The
+//! numbers with a table have a bit for the first byte of each row, for the second, and for the
+//! third: with a wrong number, the proof fails. The few tables in which most changes are looked up
+//! are written out instead, which takes a third of the instructions, and a proof of each.
 ghost use Rattle.std.specs.Prelude.{◌≡◌, ◌-◌, true, drop, length, slice_index_or};
 ghost use Rattle.std.specs.List.{list_any};
 ghost use Rattle.std.specs.Char.{to_ascii_lowercase};
@@ -17,8 +18,8 @@ ghost use Rattle.twp_rules.specs.steps.Rows.{have_at, have_ends, have_fronts, ha
 
 use crate::same::{begins_with, ends_with};
 
-/// Whether a rule that looks at one of the rows' texts writes this for it. A row is what the rule looks at, in
-/// lowercase, `=`, and what it writes instead, as in `*b"minus= except ____"`.
+/// Whether a rule that looks at one of the rows' texts writes this for it. A row is what the rule
+/// looks at, in lowercase, `=`, and what it writes instead, as in `*b"minus= except ____"`.
 #[inline(always)]
 pub(crate) fn is_among<const N: usize>(
     seen: &[u8],
@@ -97,8 +98,9 @@ fn is_some_word<const N: usize>(word: &[u8], rows: &[[u8; N]]) -> bool
     false
 }
 
-/// Whether a row of a table may begin with a byte: `heads` has a bit for the first byte of each row, whose index is the
-/// low five bits of that byte. This rules out most texts before any row is looked at.
+/// Whether a row of a table may begin with a byte: `heads` has a bit for the first byte of each
+/// row, whose index is the low five bits of that byte. This rules out most texts before any row is
+/// looked at.
 #[inline(always)]
 fn is_head(heads: u32, byte: u8) -> bool
     ensures { result ≡ is_head heads byte }
@@ -145,8 +147,8 @@ fn has_some_front<const N: usize>(seen: &[u8], first: u8, rows: &[[u8; N]]) -> b
     false
 }
 
-/// Whether a text ends with one of the rows, which are in lowercase, as in `*b"__acres"`: `ends` has the bits of their last
-/// bytes.
+/// Whether a text ends with one of the rows, which are in lowercase, as in `*b"__acres"`: `ends`
+/// has the bits of their last bytes.
 #[inline(always)]
 pub(crate) fn ends_with_one<const N: usize>(seen: &[u8], ends: u32, rows: &[[u8; N]]) -> bool
     requires { have_ends ends rows.now ≡ true }
@@ -194,7 +196,8 @@ fn is_row_by_parts(seen: &[u8], written: &[u8], row: &[u8]) -> bool
     is_before(row, b'=', seen) && is_before_filling(written, from(row, seen.len() + 1))
 }
 
-/// Whether a text in lowercase is what is before a mark of a row, or all of it. Most rows are ruled out by their length.
+/// Whether a text in lowercase is what is before a mark of a row, or all of it. Most rows are ruled
+/// out by their length.
 #[inline(always)]
 #[tactic(auto, using(crate::proofs::RowFacts::other_size, crate::proofs::RowFacts::other_end, crate::proofs::RowFacts::no_more_lower))]
 fn is_before(row: &[u8], mark: u8, seen: &[u8]) -> bool

@@ -1,4 +1,5 @@
-/// The rule of a change: what it looks at, what it writes, and where, is in the specification (`specs/Rules.antt`).
+/// The rule of a change: what it looks at, what it writes, and where, is in the specification
+/// (`specs/Rules.antt`).
 #[derive(Clone, Copy, Debug, PartialEq, Eq)]
 pub enum Rule {
     /// A half is written `1/2`.
@@ -9,10 +10,11 @@ pub enum Rule {
     Direction,
     /// A word for a number is written in digits.
     Numeral,
-    /// A section's number, or a township's or a range's, is written where it belongs. It is in the text from one
-    /// place up to another.
+    /// A section's number, or a township's or a range's, is written where it belongs. It is in the
+    /// text from one place up to another.
     Copied(usize, usize),
-    /// A step of an aliquot part is written again where it belongs too. It is in the text from one place up to another.
+    /// A step of an aliquot part is written again where it belongs too. It is in the text from one
+    /// place up to another.
     CopiedStep(usize, usize),
     /// A digit that scanning made a letter of, or a letter that it made a digit of.
     Damage,
@@ -48,7 +50,7 @@ pub enum Rule {
     MovedSection,
     /// A township and range are left out where they are written at the beginning.
     MovedHeading,
-    /// The meridian, the state, or the county is left out, which is taken for that of the field notes.
+    /// The meridian, the state, or the county is left out, which is taken for that of the plat.
     Meridian,
     /// The acreage is left out, and isn't compared.
     Acreage,

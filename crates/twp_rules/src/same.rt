@@ -25,7 +25,8 @@ pub(crate) fn is_entry(seen: &[u8], text: &[u8], written: &[u8], instead: &[u8])
     is_text(seen, text) && is_exactly(written, instead)
 }
 
-/// The same as `are_same`, but byte by byte, which takes less if the second text is short and its length is known.
+/// The same as `are_same`, but byte by byte, which takes less if the second text is short and its
+/// length is known.
 #[inline(always)]
 #[tactic(auto, using(crate::proofs::SameTexts::other_size))]
 fn is_exactly(seen: &[u8], text: &[u8]) -> bool

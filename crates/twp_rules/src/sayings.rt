@@ -24,7 +24,8 @@ use crate::words::sides::*;
 /// The fewest digits of a code after its letter and a hyphen.
 const CODE_LEAST: usize = 5;
 
-/// Whether a text is a remark. Land, numbers, and limits are looked for at once, where a word or a number begins.
+/// Whether a text is a remark. Land, numbers, and limits are looked for at once, where a word or a
+/// number begins.
 #[tactic(auto, using(crate::proofs::SayingFacts::nothing_begins, crate::proofs::SayingFacts::goes_on_here, crate::proofs::SayingFacts::land_begins, crate::proofs::SayingFacts::bare_begins, crate::proofs::SayingFacts::limit_begins))]
 pub fn is_remark(seen: &[u8]) -> bool
     ensures { result ≡ is_remark seen.now }
@@ -48,7 +49,8 @@ pub fn is_remark(seen: &[u8]) -> bool
     true
 }
 
-/// Whether a word that limits land begins at a place. Few words limit land, so whether it is a whole word is asked last.
+/// Whether a word that limits land begins at a place. Few words limit land, so whether it is a
+/// whole word is asked last.
 #[tactic(auto, using(crate::proofs::SayingFacts::second_fails, crate::proofs::SayingFacts::second_holds))]
 fn limits_land_at(seen: &[u8], at: usize) -> bool
     requires { at ≤ length seen.now }
@@ -191,8 +193,8 @@ fn limits_land(word: &[u8]) -> bool
         || is_in_measure_words(word)
 }
 
-/// Whether a word begins at a place, after neither a letter nor a digit, isn't the S of a possessive, and is of no title
-/// in which it limits no land.
+/// Whether a word begins at a place, after neither a letter nor a digit, isn't the S of a
+/// possessive, and is of no title in which it limits no land.
 fn begins_whole_word(seen: &[u8], at: usize) -> bool
     requires { at ≤ length seen.now }
     ensures { result ≡ begins_whole_word seen.now at }
@@ -202,15 +204,16 @@ fn begins_whole_word(seen: &[u8], at: usize) -> bool
         && !(is_possessive(seen, at) || is_of_title(seen, at))
 }
 
-/// Whether a text begins with the letter of a code: a hyphen and five digits or more are after it, as in `E-700123`.
+/// Whether a text begins with the letter of a code: a hyphen and five digits or more are after it,
+/// as in `E-700123`.
 fn begins_code(rest: &[u8]) -> bool
     ensures { result ≡ begins_code rest.now }
 {
     byte_at(rest, 1) == b'-' && digits_of(rest_after(rest_after(rest))).len() >= CODE_LEAST
 }
 
-/// Whether the word at a place begins a title in which no word limits land, or ends one, as in `H.E.` for a homestead
-/// entry; or it is the letter of a code.
+/// Whether the word at a place begins a title in which no word limits land, or ends one, as in
+/// `H.E.` for a homestead entry; or it is the letter of a code.
 fn is_of_title(seen: &[u8], at: usize) -> bool
     requires { at ≤ length seen.now }
     ensures { result ≡ is_of_title seen.now at }

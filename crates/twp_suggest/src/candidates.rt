@@ -28,8 +28,8 @@ pub(crate) fn outline_of<'a, F: FindsPhrases, P: Lotting>(
 }
 
 impl<'p, 'a> ChangeWriter<'p, 'a> {
-    /// The changes by the phrases that are found. This only borrows the plan, which has many vectors: a function that
-    /// owned it would need code to drop each of them, at each of its ends.
+    /// The changes by the phrases that are found. This only borrows the plan, which has many
+    /// vectors: a function that owned it would need code to drop each of them, at each of its ends.
     fn outline_by<F: FindsPhrases, P: Lotting>(
         &mut self,
         alloc: Global,

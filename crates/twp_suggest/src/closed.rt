@@ -352,7 +352,8 @@ fn have_land<P: Lotting>(
     Ok(false)
 }
 
-/// Whether a reading names this land in a township. Not inlined, since its set of land would be cleared for each text.
+/// Whether a reading names this land in a township. Not inlined, since its set of land would be
+/// cleared for each text.
 #[inline(never)]
 #[tactic(auto, using(crate::proofs::ClosedFacts::is_same))]
 fn names_land<P: Lotting>(

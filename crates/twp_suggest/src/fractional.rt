@@ -161,8 +161,8 @@ fn section_text(alloc: Global, number: u16) -> Result<Vec<u8>, AllocError> {
     Ok(text)
 }
 
-/// Whether the land of a text that names no township is on the plat only with its lots named. Not inlined, since its set
-/// of land would be cleared for each text.
+/// Whether the land of a text that names no township is on the plat only with its lots named. Not
+/// inlined, since its set of land would be cleared for each text.
 #[inline(never)]
 fn includes_lots<P: Lotting>(alloc: Global, text: &[u8], lots: &P) -> Result<bool, AllocError> {
     let mut land = Lanes::empty();

@@ -54,8 +54,9 @@ impl<'p, 'a> ChangeWriter<'p, 'a> {
         self.note_joint(out)
     }
 
-    /// Whether one of two parts is a half, and the other one has land in common with it, as in `E/2 NW/4`: as two parts,
-    /// they would name that land twice. No other part is beside them, nor an exception in the text.
+    /// Whether one of two parts is a half, and the other one has land in common with it, as in
+    /// `E/2 NW/4`: as two parts, they would name that land twice. No other part is beside them, nor
+    /// an exception in the text.
     fn is_only_of(&self, gap: Gap, one: Phrase, other: Phrase) -> bool {
         let draft = &self.plan.draft;
         let is_first = match draft.pieces.kind_before(one.first) {

@@ -10,10 +10,12 @@ use std::alloc::{AllocError, Global};
 use twp_land::{Land, Lanes, Lotting, PlaceSet};
 use twp_rules::{begins_with, digits_of, ends_with};
 
-/// The most places from the right at which the last land is looked for: a list of all lots of a section has no more.
+/// The most places from the right at which the last land is looked for: a list of all lots of a
+/// section has no more.
 const LAST_MOST: usize = 8;
 
-/// The most places from the left at which all land is looked for: after the name of a section, and after the mark there.
+/// The most places from the left at which all land is looked for: after the name of a section, and
+/// after the mark there.
 const FIRST_MOST: usize = 2;
 
 /// There is room from the start for so many bytes of land.
@@ -46,8 +48,8 @@ pub(crate) fn names_last_land<P: Lotting>(
     Ok(is_last)
 }
 
-/// Whether land is the last of a text, in the section that begins at a place, up to another: its last parts, or all of
-/// them. Not inlined, since its sets of land would be cleared for each text.
+/// Whether land is the last of a text, in the section that begins at a place, up to another: its
+/// last parts, or all of them. Not inlined, since its sets of land would be cleared for each text.
 #[inline(never)]
 fn is_last_land<P: Lotting>(
     alloc: Global,

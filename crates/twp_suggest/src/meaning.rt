@@ -1,5 +1,5 @@
-//! What a text describes, for those who change texts into descriptions: whether it is a description as it is, the land
-//! that it names, and the description that a changed text leads to.
+//! What a text describes, for those who change texts into descriptions: whether it is a description
+//! as it is, the land that it names, and the description that a changed text leads to.
 
 mod clear;
 mod kept;

@@ -1,5 +1,5 @@
-//! What explanations suggest for a text that is not read: its reading, if it has only one that names land on the plat; or
-//! why lots and aliquot parts can't describe the land.
+//! What explanations suggest for a text that is not read: its reading, if it has only one that
+//! names land on the plat; or why lots and aliquot parts can't describe the land.
 ghost use Rattle.std.specs.Prelude.{[], ◌∷◌, IfOk, IfSome};
 ghost use Rattle.twp_diagnose.specs.Suggestions.{IsOfTownship, NamesLandOf};
 ghost use Rattle.twp_grid.specs.Lands.{Lotting, lotting};

@@ -7,8 +7,8 @@ ghost use Rattle.twp_suggest.specs.Assumptions.{white_start, without_period, wor
 use crate::bytes::{after, between, byte_at, front, is_white};
 use twp_rules::{Change, Rule};
 
-/// The phrase of a text that a change is about: what it leaves out; and where it assumes that a letter is wrong, or that
-/// no comma is missing, the words around it.
+/// The phrase of a text that a change is about: what it leaves out; and where it assumes that a
+/// letter is wrong, or that no comma is missing, the words around it.
 pub fn phrase_of<'a>(text: &'a [u8], change: &Change<'_>) -> &'a [u8]
     ensures { result.now ≡ phrase text.now (seen change.now) }
 {

@@ -29,9 +29,9 @@ pub struct Reading<'a> {
 /// The most readings that are given.
 const READINGS_MOST: usize = 8;
 
-/// The readings of a text as descriptions on a plat with these lots, in a fixed order: none where nothing is sure, one where the text
-/// can be read in only one way, and at most 8. Which there are depends on the phrases that are found; what is
-/// promised of each doesn't.
+/// The readings of a text as descriptions on a plat with these lots, in a fixed order: none where
+/// nothing is sure, one where the text can be read in only one way, and at most 8. Which there are
+/// depends on the phrases that are found; what is promised of each doesn't.
 #[tactic(auto, using(crate::proofs::ReadingFacts::none_of, crate::proofs::ReadingFacts::some_of, crate::proofs::ReadingFacts::no_readings))]
 pub fn readings_of<'a, F: FindsPhrases, P: Lotting>(
     alloc: Global,
@@ -186,8 +186,8 @@ fn unfit_or_refused<'a, P: Lotting>(
     }
 }
 
-/// Whether the steps that changes of a text write again are all of their part. Only a text that is accepted is
-/// asked for it: one that names land twice may write thousands of them again.
+/// Whether the steps that changes of a text write again are all of their part. Only a text that is
+/// accepted is asked for it: one that names land twice may write thousands of them again.
 fn are_copied_whole<P: Lotting>(
     alloc: Global,
     text: &[u8],

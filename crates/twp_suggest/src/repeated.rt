@@ -1,5 +1,5 @@
-//! Text that is left out because it repeats something, as in parentheses: it has to repeat what is written just before
-//! it.
+//! Text that is left out because it repeats something, as in parentheses: it has to repeat what is
+//! written just before it.
 ghost use Rattle.std.specs.Prelude.{◌≡◌, ◌≤◌, ◌++◌, true, [], IfOk, length, drop, map, slice_range, take};
 ghost use Rattle.twp_grid.specs.Lands.{lotting};
 ghost use Rattle.twp_rules.specs.Changes.{AreChangesFrom, seen};
@@ -221,7 +221,8 @@ fn are_in_place(changes: &[Change<'_>]) -> bool
     true
 }
 
-/// Whether a rule writes something instead of what is there: nothing that was written before, or is written elsewhere.
+/// Whether a rule writes something instead of what is there: nothing that was written before, or is
+/// written elsewhere.
 fn is_in_place(rule: Rule) -> bool
     ensures { result ≡ is_in_place rule }
 {

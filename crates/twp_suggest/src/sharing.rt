@@ -1,5 +1,5 @@
-//! The other ways to read two parts with `and` between them, only one of which has an `of`, and two steps with white
-//! space between them.
+//! The other ways to read two parts with `and` between them, only one of which has an `of`, and two
+//! steps with white space between them.
 ghost use Rattle.std.specs.Prelude.{◌≡◌, ◌+◌, ◌-◌, IfOk, IfSome, map};
 ghost use Rattle.twp_grammar.specs.Tokens.{seen as token};
 ghost use Rattle.twp_rules.specs.Changes.{seen};
@@ -99,8 +99,8 @@ pub(crate) fn is_comma_by(rule: Rule, text: &[u8], start: usize, end: usize) -> 
     }
 }
 
-/// The place of a change in the text that changes make, after one that ends at a place of the text and at a place of
-/// that text.
+/// The place of a change in the text that changes make, after one that ends at a place of the text
+/// and at a place of that text.
 pub(crate) fn here(place: usize, at: usize, start: usize) -> Option<usize>
     ensures { IfSome result (λ it. it ≡ place + (start - at)) }
 {
@@ -244,8 +244,8 @@ fn head_of(changes: &[Change<'_>], end: usize, part: &[Token<'_>]) -> Option<Opt
     Some(way_if(is_way, way))
 }
 
-/// Whether no phrase is left out between two places of the text that changes make, and no steps are written again
-/// between two others.
+/// Whether no phrase is left out between two places of the text that changes make, and no steps are
+/// written again between two others.
 fn are_as_written(
     changes: &[Change<'_>],
     from: usize,

@@ -1,5 +1,5 @@
-//! The other ways to read the places that changes decide: steps that are written again, and white space between two
-//! steps, which is left out, or becomes a comma.
+//! The other ways to read the places that changes decide: steps that are written again, and white
+//! space between two steps, which is left out, or becomes a comma.
 ghost use Rattle.std.specs.Prelude.{◌≡◌, ◌+◌, ◌≤◌, IfSome, length, map};
 ghost use Rattle.twp_rules.specs.Changes.{seen};
 ghost use Rattle.twp_suggest.specs.Ways.{are_shared, begins_step_at, copied_length, copies_at, ends_fraction};
@@ -20,8 +20,8 @@ pub(crate) struct ChangeBefore {
     pub(crate) at: usize,
 }
 
-/// The other way at a change that is at a place of the text that the changes make, before others. None if it can't be
-/// told.
+/// The other way at a change that is at a place of the text that the changes make, before others.
+/// None if it can't be told.
 pub(crate) fn way_after(
     before: ChangeBefore,
     text: &[u8],

@@ -9,7 +9,8 @@ use std::alloc::{AllocError, Global};
 pub enum Way {
     /// With a comma at a place: one part is two.
     Apart(usize),
-    /// Without the bytes from one place up to another: two parts are one, or some steps are of one part alone.
+    /// Without the bytes from one place up to another: two parts are one, or some steps are of one
+    /// part alone.
     LeftOut(usize, usize),
     /// With the bytes from one place up to another again, at a first place: some steps are of two parts.
     Again(usize, usize, usize),

@@ -17,13 +17,12 @@ mod parties;
 mod properties;
 mod requests;
 mod same;
-mod short;
 mod steps;
 mod terms;
 
 pub use changes::{
     alters_land, is_land_by_name, is_of_appurtenance, is_of_estate, is_of_survey, is_site,
-    lies_in_land, limits_land,
+    limits_land,
 };
 pub use directions::{is_step_word, is_worn_corner, is_worn_section, letters_of, tens_of};
 pub use figures::{
@@ -51,7 +50,6 @@ pub use parties::{
 pub use properties::{begins_property, is_of_property, names_property, points_into};
 pub use requests::{begins_request, is_of_request};
 pub use same::{are_corners, is_glued, is_one_of, is_same, size_of_character};
-pub use short::may_be_limit;
 pub use steps::{Size, written_step};
 pub use terms::{
     begins_terms, is_beyond_depths, is_beyond_terms, is_boundary, is_conveyance, is_of_depth,

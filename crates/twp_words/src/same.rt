@@ -16,12 +16,12 @@ fn begin_alike(word: &[u8], text: &[u8]) -> bool {
     }
 }
 
-/// Whether a word is one of these words, which are sorted, and all have as many bytes as it has, and a space between them. A
-/// list in code calls this with a row of words for each length: so only the few words of this length are
-/// compared, and they are proved at once, not one by one. Rows that a `match` returned would become a table
-/// of pointers, each of which is set at every start of the program. The number before the words has a bit for
-/// the first byte of each of them, and one for the last byte, which rules out most words before any is
-/// compared.
+/// Whether a word is one of these words, which are sorted, and all have as many bytes as it has,
+/// and a space between them. A list in code calls this with a row of words for each length: so only
+/// the few words of this length are compared, and they are proved at once, not one by one. Rows
+/// that a `match` returned would become a table of pointers, each of which is set at every start of
+/// the program. The number before the words has a bit for the first byte of each of them, and one
+/// for the last byte, which rules out most words before any is compared.
 #[inline(always)]
 pub(crate) fn is_among(word: &[u8], edges: u64, words: &str) -> bool {
     has_edges(word, edges) && has_row(word, words)
@@ -43,8 +43,8 @@ fn has_edges(word: &[u8], edges: u64) -> bool {
 /// The most times that the rows of a list are halved: no list has as many as this allows.
 const HALVINGS_MOST: usize = 16;
 
-/// Whether a word is one of these words, which are sorted: half of the rows that are left are ruled out by each
-/// comparison.
+/// Whether a word is one of these words, which are sorted: half of the rows that are left are ruled
+/// out by each comparison.
 #[inline(never)]
 fn has_row(word: &[u8], words: &str) -> bool {
     let rows = words.as_bytes();
@@ -66,8 +66,8 @@ fn has_row(word: &[u8], words: &str) -> bool {
     false
 }
 
-/// The first byte of a row that isn't that of a word, and the word's byte. Both are short, so they are compared
-/// byte by byte.
+/// The first byte of a row that isn't that of a word, and the word's byte. Both are short, so they
+/// are compared byte by byte.
 fn first_difference(row: &[u8], word: &[u8]) -> Option<(u8, u8)> {
     for (one, other) in row.iter().zip(word) {
         if one != other {

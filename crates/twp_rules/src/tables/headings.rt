@@ -91,7 +91,8 @@ pub(crate) fn is_in_heading_marks(seen: &[u8], written: &[u8]) -> bool
     )
 }
 
-/// Whether this is a row of the table `section_words` of the specification: what it looks at, and what it writes.
+/// Whether this is a row of the table `section_words` of the specification: what it looks at, and
+/// what it writes.
 pub(crate) fn is_in_section_words(seen: &[u8], written: &[u8]) -> bool
     ensures { result ≡ is_among seen.now written.now section_words }
 {

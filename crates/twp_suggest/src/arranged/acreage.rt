@@ -1,6 +1,7 @@
-//! Acreage that a text states. It may differ from that of the land, which counts; but with a quarter of it, or less, or
-//! nine tenths where a figure in acres follows an aliquot part, the text may mean a part of this land, or other land; and
-//! with twice of it, or four times, the part that contains this land (`larger_part`).
+//! Acreage that a text states. It may differ from that of the land, which counts; but with a
+//! quarter of it, or less, or nine tenths where a figure in acres follows an aliquot part, the text
+//! may mean a part of this land, or other land; and with twice of it, or four times, the part that
+//! contains this land (`larger_part`).
 
 use crate::arranged::plan::Plan;
 use twp_asides::{is_acres, is_of_count, plus, value_of_count};

@@ -125,7 +125,8 @@ impl<'a> Plan<'a> {
         }
     }
 
-    /// Takes land after an exception that can't be of it: the exception ends, and the land is of the same section.
+    /// Takes land after an exception that can't be of it: the exception ends, and the land is of
+    /// the same section.
     fn end_exception(&self, placed: &mut Placed, found: &mut GroupsSoFar) {
         let Some(group) = found.group else {
             return;
@@ -199,8 +200,9 @@ impl<'a> Plan<'a> {
                 && !pieces.follows(first, b";"))
     }
 
-    /// Whether an exception is set apart from the land before it, as its section is from other land: it may be
-    /// from the land of each section. After a comma it isn't, if a semicolon or a line end is before the section.
+    /// Whether an exception is set apart from the land before it, as its section is from other
+    /// land: it may be from the land of each section. After a comma it isn't, if a semicolon or a
+    /// line end is before the section.
     fn is_set_apart(&self, exception: Phrase, section: Phrase) -> bool {
         let pieces = &self.draft.pieces;
         let first = exception.first;
@@ -213,8 +215,8 @@ impl<'a> Plan<'a> {
             || pieces.has_before(first, b'\n')
     }
 
-    /// Whether the label of a tract, a township, or both, begin a line or follow a semicolon, and end before an index, as in
-    /// `Tract 2: T2N R3W, Section 17`.
+    /// Whether the label of a tract, a township, or both, begin a line or follow a semicolon, and
+    /// end before an index, as in `Tract 2: T2N R3W, Section 17`.
     fn is_after_label_of_item(&self, index: usize) -> bool {
         let pieces = &self.draft.pieces;
         for count in 2..ITEM_MOST {

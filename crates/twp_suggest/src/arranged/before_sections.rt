@@ -155,8 +155,9 @@ impl<'a> Plan<'a> {
         self.take_land(placed.phrase, index, found);
     }
 
-    /// Whether the land at an index isn't excepted with the land before it, since it is of another section,
-    /// which follows it with `of`, as in `All of Section 20, except the SESE thereof, and the W/2 of Section 21`.
+    /// Whether the land at an index isn't excepted with the land before it, since it is of another
+    /// section, which follows it with `of`, as in
+    /// `All of Section 20, except the SESE thereof, and the W/2 of Section 21`.
     fn is_of_other_section(&self, list: &[Placed], index: usize, found: &LandSoFar) -> bool {
         let Some(before) = index.checked_sub(1) else {
             return false;

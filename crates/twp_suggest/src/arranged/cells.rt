@@ -49,8 +49,9 @@ impl<'a> Plan<'a> {
         self.draft.pieces.is(index, b"|") || self.draft.pieces.is(index, b"\"")
     }
 
-    /// Whether neither of two lands in cells of their own may be a part of the other: each is of lots, or has two
-    /// steps or more; or the first is of lots, and the second in the cell for aliquot parts.
+    /// Whether neither of two lands in cells of their own may be a part of the other: each is of
+    /// lots, or has two steps or more; or the first is of lots, and the second in the cell for
+    /// aliquot parts.
     pub(crate) fn are_whole_cells(
         &self,
         before: &Phrase,

@@ -239,8 +239,8 @@ impl<'a> Plan<'a> {
         found.await_land(far);
     }
 
-    /// Whether a section and the one before it, each with its word, begin a line: what is before the line is of the
-    /// section before.
+    /// Whether a section and the one before it, each with its word, begin a line: what is before
+    /// the line is of the section before.
     fn are_in_lines(&self, before: Option<Phrase>, section: Phrase) -> bool {
         let pieces = &self.draft.pieces;
         match before {
@@ -255,8 +255,8 @@ impl<'a> Plan<'a> {
         }
     }
 
-    /// Whether a row begins with a township between two phrases, as in a register: what is before it is of the row
-    /// before.
+    /// Whether a row begins with a township between two phrases, as in a register: what is before
+    /// it is of the row before.
     fn begins_row_between(&self, first: usize, last: usize) -> bool {
         let mut has_line = false;
         for placed in self.draft.phrases.get(plus(first, 1)..last).unwrap_or(&[]) {

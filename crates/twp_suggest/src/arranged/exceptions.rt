@@ -58,8 +58,8 @@ impl<'a> Plan<'a> {
             && self.is_apart_from_whole(&list[..before], phrase)
     }
 
-    /// Whether an exception is among the last phrases, and the parts of its section before it, of which there are some,
-    /// have no land in common with a part.
+    /// Whether an exception is among the last phrases, and the parts of its section before it, of
+    /// which there are some, have no land in common with a part.
     fn is_apart_from_whole(&self, list: &[Placed], part: Phrase) -> bool {
         let mut is_excepted = true;
         let mut has_part = false;
@@ -86,8 +86,8 @@ impl<'a> Plan<'a> {
         false
     }
 
-    /// Doubts a part after `and` and a list of lots that are excepted from a part, if that list has an `and` of its own,
-    /// as in `N/2 less Lots 1 & 2 and S/2NE/4`: the part may be kept.
+    /// Doubts a part after `and` and a list of lots that are excepted from a part, if that list has
+    /// an `and` of its own, as in `N/2 less Lots 1 & 2 and S/2NE/4`: the part may be kept.
     pub(crate) fn doubt_part_after_lots(&mut self, list: &[Placed]) {
         let mut is_excepting = false;
         let mut has_part = false;
@@ -127,8 +127,9 @@ impl<'a> Plan<'a> {
         false
     }
 
-    /// Doubts an excepted part that includes a part from which it is excepted, as in `N/2 and SE/4, except
-    /// the N/2`: it may be a part of that. The land of each section is in a group.
+    /// Doubts an excepted part that includes a part from which it is excepted, as in
+    /// `N/2 and SE/4, except the N/2`: it may be a part of that. The land of each section is in a
+    /// group.
     pub(crate) fn doubt_whole_exceptions(&mut self, list: &[Placed]) {
         let mut is_excepting = false;
         for index in 0..list.len() {

@@ -151,8 +151,8 @@ impl<'a> Plan<'a> {
     }
 
     /// Whether the last steps of a part may be for the one before it too, as in
-    /// `E½ of NW¼ and W½ of NE¼ of SE¼`: it has more steps, an `of` before the last one, and the first ones of both
-    /// parts are apart.
+    /// `E½ of NW¼ and W½ of NE¼ of SE¼`: it has more steps, an `of` before the last one, and the
+    /// first ones of both parts are apart.
     fn may_share_last(&self, before: &Phrase, after: &Phrase) -> bool {
         let (first, second) = (self.draft.steps_of(*before), self.draft.steps_of(*after));
         after.form == Form::WithOf

@@ -1,7 +1,9 @@
-//! An acreage that is that of a part which contains the land: `E/2SE/4, containing 160 acres`. Either may be wrong.
+//! An acreage that is that of a part which contains the land: `E/2SE/4, containing 160 acres`.
+//! Either may be wrong.
+ghost use Rattle.std.specs.Prelude.{◌<◌, length};
 
 use crate::arranged::plan::Plan;
-use twp_asides::{is_acres, plus};
+use twp_asides::is_acres;
 use twp_draft::{LeftOut, Phrase, PhraseKind, Placed};
 
 /// The nominal area of a section, in hundredths of an acre.
@@ -19,21 +21,22 @@ struct PartsArea {
 }
 
 impl<'a> Plan<'a> {
-    /// Whether the acreage of a phrase with an index is twice that of its land, or four times: that of a part which
-    /// contains this land. Only a figure with a word for acres is looked at, and land in one section, without lots and
-    /// exceptions.
-    pub(crate) fn is_of_larger_part(&self, acreage: u64, list: &[Placed], index: usize) -> bool {
+    /// Whether the acreage of a phrase with an index is twice that of its land, or four times: that
+    /// of a part which contains this land. Only a figure with a word for acres is looked at, and
+    /// land in one section, without lots and exceptions.
+    pub(crate) fn is_of_larger_part(&self, acreage: u64, list: &[Placed], index: usize) -> bool
+        requires { index < length list.now }
+    {
         let counts = self.counts;
         if counts.sections != 1 || counts.lists > 0 || counts.lots > 0 || counts.exceptions > 0 {
             return false;
         }
-        let has_unit = matches!(list.get(index), Some(placed) if self.has_unit(placed.phrase));
-        if !has_unit {
+        if !self.has_unit(list[index].phrase) {
             return false;
         }
         let land = self.area_of_parts(land_of_acreage(list, index));
         let all = self.area_of_parts(list);
-        let before = self.area_of_parts(list.get(..index).unwrap_or(&[]));
+        let before = self.area_of_parts(&list[..index]);
         if land.joined == 0 || land.longest > 2 {
             return false;
         }
@@ -71,7 +74,7 @@ impl<'a> Plan<'a> {
             apart = apart.saturating_add(own);
             if phrase.kind == PhraseKind::Part && phrase.first == end {
                 last = self.share_of(phrase, last);
-                count = plus(count, 1);
+                count = count.saturating_add(1);
             } else {
                 joined = joined.saturating_add(last);
                 last = own;
@@ -92,30 +95,41 @@ impl<'a> Plan<'a> {
 
 /// The phrases that an acreage with an index is said of: those before it, from the acreage before it on; or if these
 /// name no part, those after it, up to the next acreage.
-fn land_of_acreage(list: &[Placed], index: usize) -> &[Placed] {
-    let before = list.get(..index).unwrap_or(&[]);
-    let mut first: usize = 0;
-    let mut has_part = false;
-    for (place, placed) in before.iter().enumerate() {
-        match placed.phrase.kind {
-            PhraseKind::Nothing(LeftOut::Acreage) => {
-                first = plus(place, 1);
-                has_part = false;
-            }
-            PhraseKind::Part | PhraseKind::All => has_part = true,
-            _ => {}
-        }
+fn land_of_acreage(list: &[Placed], index: usize) -> &[Placed]
+    requires { index < length list.now }
+{
+    let before = after_last_acreage(&list[..index]);
+    if names_part(before) {
+        before
+    } else {
+        before_next_acreage(&list[index + 1..])
     }
-    if has_part {
-        return before.get(first..).unwrap_or(&[]);
-    }
-    let after = list.get(plus(index, 1)..).unwrap_or(&[]);
-    for (place, placed) in after.iter().enumerate() {
+}
+
+/// The phrases after the last acreage among some: all of them, if they have none.
+fn after_last_acreage(list: &[Placed]) -> &[Placed] {
+    let mut rest = list;
+    for (place, placed) in list.iter().enumerate() {
         if placed.phrase.kind == PhraseKind::Nothing(LeftOut::Acreage) {
-            return after.get(..place).unwrap_or(&[]);
+            rest = &list[place + 1..];
         }
     }
-    after
+    rest
+}
+
+/// The phrases before the first acreage among some: all of them, if they have none.
+fn before_next_acreage(list: &[Placed]) -> &[Placed] {
+    for (place, placed) in list.iter().enumerate() {
+        if placed.phrase.kind == PhraseKind::Nothing(LeftOut::Acreage) {
+            return &list[..place];
+        }
+    }
+    list
+}
+
+/// Whether phrases name an aliquot part, or all of a section.
+fn names_part(list: &[Placed]) -> bool {
+    list.iter().any(|placed| matches!(placed.phrase.kind, PhraseKind::Part | PhraseKind::All))
 }
 
 /// Whether an acreage is that of some parts.
@@ -123,7 +137,8 @@ fn is_area(acreage: u64, area: PartsArea) -> bool {
     acreage == area.joined || acreage == area.apart
 }
 
-/// Whether an acreage is a nominal area, or differs from it by a twentieth at most, as areas that were measured do.
+/// Whether an acreage is a nominal area, or differs from it by a twentieth at most, as areas that
+/// were measured do.
 fn is_about(acreage: u64, area: u64) -> bool {
     let least = (area / 20).saturating_mul(19);
     let most = (area / 20).saturating_mul(21);

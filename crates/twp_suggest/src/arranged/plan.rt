@@ -16,8 +16,8 @@ pub struct Plan<'a> {
     pub acreage: Option<u64>,
 }
 
-/// How many phrases of some kinds a text has. They are counted once, since most questions are about phrases that
-/// most texts don't have, or have only once.
+/// How many phrases of some kinds a text has. They are counted once, since most questions are about
+/// phrases that most texts don't have, or have only once.
 #[derive(Clone, Copy)]
 pub(crate) struct Counts {
     pub(crate) headings: usize,

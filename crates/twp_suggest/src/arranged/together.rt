@@ -20,8 +20,9 @@ impl<'a> Plan<'a> {
         }
     }
 
-    /// Whether parts, or phrases beside each other, aren't sure together. A single part is beside no other, and
-    /// what is beside a phrase is doubted only where something is left out, and for lots before a section.
+    /// Whether parts, or phrases beside each other, aren't sure together. A single part is beside
+    /// no other, and what is beside a phrase is doubted only where something is left out, and for
+    /// lots before a section.
     fn are_unsure_together(&self) -> bool {
         let counts = self.counts;
         (counts.parts > 0 && self.has_part_of_part())
@@ -85,8 +86,8 @@ impl<'a> Plan<'a> {
         self.has_land_missing() || self.has_other_parcel() || self.has_other_tract()
     }
 
-    /// Whether it isn't sure which land the sections have. A single section has all of it, unless an exception
-    /// may be of other land.
+    /// Whether it isn't sure which land the sections have. A single section has all of it, unless
+    /// an exception may be of other land.
     fn has_unsure_section(&self) -> bool {
         let counts = self.counts;
         (counts.sections > 1 && (self.has_loose_section() || self.has_section_aside()))

@@ -1,4 +1,5 @@
-//! `all of` before the first section, where land follows the other sections, as in `all of secs. 4 and 5; sec. 10, W1/2`.
+//! `all of` before the first section, where land follows the other sections, as in
+//! `all of secs. 4 and 5; sec. 10, W1/2`.
 
 use crate::arranged::plan::Plan;
 use twp_asides::plus;
@@ -6,8 +7,8 @@ use twp_draft::{LeftOut, PhraseKind, Placed, Role};
 use twp_grammar::Kind;
 
 impl<'a> Plan<'a> {
-    /// Takes `all` before `of` and the first section for a word that means nothing, if the last phrase is of land: then
-    /// the land of each section follows it, and the first one has none.
+    /// Takes `all` before `of` and the first section for a word that means nothing, if the last
+    /// phrase is of land: then the land of each section follows it, and the first one has none.
     pub(crate) fn leave_out_first_all(&mut self) {
         let Some(index) = self.first_all() else {
             return;
@@ -39,8 +40,8 @@ impl<'a> Plan<'a> {
 
 impl<'a> Plan<'a> {
     /// Whether the first sections are whole, and all other land is before its own section, as in
-    /// `Sections 13 and 24 and the E/2 of Section 14`: `and` joins it to the first ones, and `of` is before each
-    /// further section.
+    /// `Sections 13 and 24 and the E/2 of Section 14`: `and` joins it to the first ones, and `of`
+    /// is before each further section.
     pub(crate) fn are_whole_before_land(&self, list: &[Placed]) -> bool {
         let mut end = None;
         let mut has_land = false;

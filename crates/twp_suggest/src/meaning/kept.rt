@@ -1,4 +1,5 @@
-//! What a changed text keeps, and what it takes away, if it excepts land: its first exception, and its divisions.
+//! What a changed text keeps, and what it takes away, if it excepts land: its first exception, and
+//! its divisions.
 ghost use Rattle.std.specs.Prelude.{◌≡◌, ◌≢◌, ◌≤◌, ◌<◌, ◌++◌, ◌∷◌, [], ℕ, IfOk, IfSome, MatchBool, MatchOption, OnOk};
 ghost use Rattle.std.specs.Prelude.{drop, length, slice_index, take};
 ghost use Rattle.twp_suggest.specs.Excepting.{HasNoExceptBefore, HasNoSemicolon, IsDivided};
@@ -32,8 +33,8 @@ struct FirstDivision<'a> {
     more: Option<&'a [u8]>,
 }
 
-/// What the divisions of a text keep: their land, and blanks instead of each exception. And what they take away:
-/// blanks instead of all but the exceptions, and a semicolon between two of them.
+/// What the divisions of a text keep: their land, and blanks instead of each exception. And what
+/// they take away: blanks instead of all but the exceptions, and a semicolon between two of them.
 pub(crate) fn divide(alloc: Global, made: &[u8]) -> Result<Divided, AllocError>
     ensures { IfOk result (λ it. IsDivided made.now it.whole.items it.excepted.items) }
 {
@@ -73,8 +74,8 @@ fn first_division(text: &[u8]) -> FirstDivision<'_>
     }
 }
 
-/// Adds a division to what is kept and to what is taken away, in which a mark is before an exception. Returns the
-/// mark before the next one.
+/// Adds a division to what is kept and to what is taken away, in which a mark is before an
+/// exception. Returns the mark before the next one.
 fn add_division(
     whole: &mut Vec<u8>,
     excepted: &mut Vec<u8>,

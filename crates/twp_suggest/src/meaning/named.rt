@@ -21,9 +21,9 @@ use twp_read::Description;
 #[derive(Clone, Copy, PartialEq, Eq)]
 struct Unnamed;
 
-/// Whether a text names land of a plat with these lots, also by aliquot parts that include lots, which `land` is
-/// then. It is filled in place, as in `find_land`. It names none if it names what the plat doesn't have, land
-/// twice, or a part of a lot.
+/// Whether a text names land of a plat with these lots, also by aliquot parts that include lots,
+/// which `land` is then. It is filled in place, as in `find_land`. It names none if it names what
+/// the plat doesn't have, land twice, or a part of a lot.
 pub fn find_named_land<P: Lotting>(
     alloc: Global,
     text: &[u8],

@@ -15,8 +15,8 @@ use twp_land::{Land, Lanes, Lotting, PlaceSet};
 use twp_read::Description;
 use twp_resolve::resolve_into;
 
-/// Whether a text names land of a township, also by aliquot parts that include whole lots, which `land` is then. It is
-/// filled in place, as in `find_land`.
+/// Whether a text names land of a township, also by aliquot parts that include whole lots, which
+/// `land` is then. It is filled in place, as in `find_land`.
 pub(crate) fn find_text_with_lots<P: Lotting>(
     alloc: Global,
     text: &[u8],
@@ -38,7 +38,8 @@ pub(crate) fn find_text_with_lots<P: Lotting>(
     }
 }
 
-/// Finds the land of a description in a township, also by aliquot parts that include whole lots, which `land` is then.
+/// Finds the land of a description in a township, also by aliquot parts that include whole lots,
+/// which `land` is then.
 #[tactic(auto, using(crate::proofs::meaning::LandFacts::land_on_plat, crate::proofs::meaning::LandFacts::land_with_lots, crate::proofs::meaning::LandFacts::not_on_plat))]
 pub(crate) fn find_some_land<P: Lotting>(
     description: &Description,

@@ -31,7 +31,8 @@ pub struct Excepted {
     pub at: usize,
 }
 
-/// A description derived from a changed text, the manner in which it was derived, and the items of the changed text.
+/// A description derived from a changed text, the manner in which it was derived, and the items of
+/// the changed text.
 #[derive(Drop)]
 pub struct Wording {
     pub text: Vec<u8>,
@@ -148,8 +149,9 @@ fn with_lots_named<P: Lotting>(
     Ok(text)
 }
 
-/// The canonical description of the land of a text that it doesn't except. All after the first `except` is excepted
-/// from all before it, or, if that can't be, each division of the text is by itself.
+/// The canonical description of the land of a text that it doesn't except. All after the first
+/// `except` is excepted from all before it, or, if that can't be, each division of the text is by
+/// itself.
 fn without_excepted<P: Lotting>(alloc: Global, made: &[u8], lots: &P) -> Result<Wording, NoReading>
     ensures described { IfOk result (λ found.
         IsDescribed (lotting (P.layout lots.now)) found.manner made.now found.text.items) }
@@ -173,8 +175,9 @@ fn without_excepted<P: Lotting>(alloc: Global, made: &[u8], lots: &P) -> Result<
     of_last(alloc, made, parts, description, township, lots)
 }
 
-/// Whether a text names land that can be excepted from that of another: which lies in it, and isn't all of it. Aliquot
-/// parts in both may include whole lots. Not inlined, since its sets of land would be cleared for each text.
+/// Whether a text names land that can be excepted from that of another: which lies in it, and isn't
+/// all of it. Aliquot parts in both may include whole lots. Not inlined, since its sets of land
+/// would be cleared for each text.
 #[inline(never)]
 fn is_exception<P: Lotting>(
     alloc: Global,
@@ -227,8 +230,9 @@ fn of_last<P: Lotting>(
     )
 }
 
-/// The description of a text without the exceptions of its divisions, which semicolons separate. They name no land
-/// twice, so that no text has two readings, of which one excepts all after the first `except`.
+/// The description of a text without the exceptions of its divisions, which semicolons separate.
+/// They name no land twice, so that no text has two readings, of which one excepts all after the
+/// first `except`.
 #[inline(never)]
 fn of_each<P: Lotting>(
     alloc: Global,
@@ -253,9 +257,9 @@ fn of_each<P: Lotting>(
     remainder(alloc, made, whole, description, excepted, 0, township, lots)
 }
 
-/// The canonical description of the land of a text without the land of another, which has to be in the same
-/// township, in the land of the first, and not all of it. Aliquot parts in both may include whole lots. Not inlined,
-/// since its sets of land would be cleared for each text.
+/// The canonical description of the land of a text without the land of another, which has to be in
+/// the same township, in the land of the first, and not all of it. Aliquot parts in both may
+/// include whole lots. Not inlined, since its sets of land would be cleared for each text.
 #[tactic(auto, using(crate::proofs::meaning::LandFacts::are_excepted))]
 #[inline(never)]
 fn remainder<P: Lotting>(

@@ -11,7 +11,8 @@ use twp_rules::Change;
 /// The most phrases that are named for an assumption.
 const NAMED_MOST: usize = 3;
 
-/// Appends what changes of a text assume that it doesn't say: for each assumption, the phrases that it is about.
+/// Appends what changes of a text assume that it doesn't say: for each assumption, the phrases that
+/// it is about.
 pub(crate) fn write_assumptions(
     text: &[u8],
     changes: &[Change<'_>],
@@ -91,8 +92,8 @@ fn write_phrases(
     Ok(())
 }
 
-/// What to write before the next phrase of an assumption, after `count` others: a separator, and before the first one
-/// `without`, if the phrases are left out.
+/// What to write before the next phrase of an assumption, after `count` others: a separator, and
+/// before the first one `without`, if the phrases are left out.
 fn before_phrase(count: usize, is_first: bool, assumption: Assumption) -> &'static str {
     match (count, is_first, assumption.is_of_left_out()) {
         (0, true, true) => "without ",
