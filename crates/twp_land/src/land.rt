@@ -2,11 +2,11 @@ ghost use Rattle.std.specs.Prelude.{◌≡◌, ◌↔◌, ℕ, IsTrue};
 ghost use Rattle.twp_grid.specs.Lands.{no_places, union, difference, intersection, block_places};
 ghost use Rattle.twp_grid.specs.Lands.{SharePlace, SamePlaces, ContainsAll};
 
-use crate::place_set::PlaceSet;
+use crate::growing_set::GrowingSet;
 use twp_grid::{Block, Section};
 
 /// A set of places in a township, with room for the places of each section.
-pub trait Land: PlaceSet {
+pub trait Land: GrowingSet {
     /// The empty set.
     fn empty() -> Self
         ensures { Self.places result ≡ no_places };

@@ -1,10 +1,11 @@
-//! Land: sets of places in a township. The trait `PlaceSet` says what each such set does, and the trait
-//! `Land` what else a set does that has room for all sections. `Grid` stores a test for each place, and
-//! `Lanes` a bit. `OneLanes` has room for the places of one section, and `WholeSections` for whole sections.
+//! Land: sets of places in a township. The trait `PlaceSet` says what each such set does, `GrowingSet` what a set does to
+//! which places are added, and `Land` what else a set does that has room for all sections. `Grid` stores a test for each
+//! place, and `Lanes` a bit. `OneLanes` has room for the places of one section, and `WholeSections` is made of whole sections.
 #![tactic(auto)]
 
 mod comparing;
 mod dividing;
+mod growing_set;
 mod land;
 mod land_rows;
 mod lanes;
@@ -28,6 +29,7 @@ mod whole_sections;
 
 pub use comparing::{Comparison, compare};
 pub use dividing::map_of_marks;
+pub use growing_set::GrowingSet;
 pub use land::Land;
 pub use land_rows::LandRows;
 pub use lanes::{LaneRows, Lanes};

@@ -8,6 +8,7 @@ mod bytes;
 mod marks;
 mod searching;
 
+use crate::growing_set::GrowingSet;
 use crate::lotting::Lotting;
 use crate::place_set::PlaceSet;
 use bytes::has_byte;
@@ -93,7 +94,7 @@ impl LotMap {
     /// Adds the places of a section with marks from a least to a greatest to a set, unless the set
     /// contains one of them. Returns whether it contained none; if it did, its content has no
     /// meaning.
-    fn add<S: PlaceSet>(&self, set: &mut S, section: Section, least: u8, most: u8) -> bool
+    fn add<S: GrowingSet>(&self, set: &mut S, section: Section, least: u8, most: u8) -> bool
         requires room { IsTrue (S.has_room set.old section) }
         requires range { least ≤ most }
         ensures apart { IsTrue result → ¬ SharePlace (S.places set.old)
@@ -166,7 +167,7 @@ impl Lotting for LotMap {
         self.meets(section, block, NO_LAND, NO_LAND)
     }
 
-    fn add_section<S: PlaceSet>(&self, set: &mut S, section: Section) -> bool {
+    fn add_section<S: GrowingSet>(&self, set: &mut S, section: Section) -> bool {
         if self.has_none_from(section, NO_LAND) {
             return set.add_apart(section, Block::whole());
         }
@@ -215,7 +216,7 @@ impl Lotting for LotMap {
         !self.meets(section, block, 0, 0) && !self.lacks_land(section, block)
     }
 
-    fn add_lot<S: PlaceSet>(&self, set: &mut S, section: Section, number: u8) -> bool {
+    fn add_lot<S: GrowingSet>(&self, set: &mut S, section: Section, number: u8) -> bool {
         if let Some(block) = self.only_position(section, number) {
             return set.add_apart(section, block);
         }

@@ -7,6 +7,7 @@ ghost use Rattle.twp_grid.specs.Lands.{ContainsAll, count_held};
 ghost use Rattle.twp_grid.specs.Spans.{whole_block};
 ghost use Rattle.twp_land.specs.LotMaps.{land_off_lots};
 
+use crate::growing_set::GrowingSet;
 use crate::lots::holds_of_lot;
 use crate::place_set::PlaceSet;
 use twp_grid::{Block, PLACES_TO_POSITION, Section, lot_count};
@@ -28,7 +29,7 @@ pub trait Lotting {
 
     /// Adds the places of a section at which the plat has land to a set, unless the set contains
     /// one of them. Returns whether it contained none; if it did, its content has no meaning.
-    fn add_section<S: PlaceSet>(&self, set: &mut S, section: Section) -> bool
+    fn add_section<S: GrowingSet>(&self, set: &mut S, section: Section) -> bool
         requires room { IsTrue (S.has_room set.old section) }
         ensures apart { IsTrue result → ¬ SharePlace (S.places set.old)
             (section_places (lotting (layout self.now)) section) }
@@ -62,7 +63,7 @@ pub trait Lotting {
 
     /// Adds the places of a section's lot to a set, unless the set contains one of them. Returns
     /// whether it contained none; if it did, its content has no meaning.
-    fn add_lot<S: PlaceSet>(&self, set: &mut S, section: Section, number: u8) -> bool
+    fn add_lot<S: GrowingSet>(&self, set: &mut S, section: Section, number: u8) -> bool
         requires room { IsTrue (S.has_room set.old section) }
         requires lot { HasLot (lotting (layout self.now)) section number }
         ensures apart { IsTrue result → ¬ SharePlace (S.places set.old)
@@ -122,7 +123,7 @@ impl Lotting for StandardLots {
     }
 
     #[inline(always)]
-    fn add_section<S: PlaceSet>(&self, set: &mut S, section: Section) -> bool {
+    fn add_section<S: GrowingSet>(&self, set: &mut S, section: Section) -> bool {
         set.add_apart(section, Block::whole())
     }
 
@@ -183,7 +184,7 @@ impl Lotting for StandardLots {
     }
 
     #[inline(always)]
-    fn add_lot<S: PlaceSet>(&self, set: &mut S, section: Section, number: u8) -> bool {
+    fn add_lot<S: GrowingSet>(&self, set: &mut S, section: Section, number: u8) -> bool {
         let block = Block::of_lot(section, number).unwrap();
         set.add_apart(section, block)
     }

@@ -2,6 +2,7 @@ ghost use Rattle.std.specs.Prelude.{◌≡◌, ◌==◌, ◌&&◌};
 ghost use Rattle.twp_grid.specs.Lands.{no_places};
 ghost use Rattle.twp_land.specs.Storage.{held_in_one, is_section, nothing_held};
 
+use crate::growing_set::GrowingSet;
 use crate::lanes::LaneRows;
 use crate::place_set::PlaceSet;
 use crate::plot::{Plot, add_apart};
@@ -36,8 +37,6 @@ impl<P: Plot> OneSection<P> {
 
 impl<P: Plot> PlaceSet for OneSection<P> {
     ghost places = { λ set. held_in_one set.number (P.held set.plot) };
-
-    ghost has_room = { λ set section. is_section section && (set.number == section) };
 
     ghost use Rattle.twp_land.specs.steps.Within.{one_within};
 
@@ -76,6 +75,23 @@ impl<P: Plot> PlaceSet for OneSection<P> {
     }
 
     #[inline]
+    fn clear(&mut self) {
+        if self.number != NO_SECTION {
+            self.number = NO_SECTION;
+            self.plot = P::empty();
+        }
+    }
+
+    fn sections(&self) -> Option<(Section, Section)> {
+        let section = Section::new(self.number)?;
+        Some((section, section))
+    }
+}
+
+impl<P: Plot> GrowingSet for OneSection<P> {
+    ghost has_room = { λ set section. is_section section && (set.number == section) };
+
+    #[inline]
     fn make_room(&mut self, section: Section) -> bool {
         let number = section.number();
         if self.number == NO_SECTION {
@@ -87,18 +103,5 @@ impl<P: Plot> PlaceSet for OneSection<P> {
     #[inline(always)]
     fn add_apart(&mut self, _section: Section, block: Block) -> bool {
         add_apart(&mut self.plot, block)
-    }
-
-    #[inline]
-    fn clear(&mut self) {
-        if self.number != NO_SECTION {
-            self.number = NO_SECTION;
-            self.plot = P::empty();
-        }
-    }
-
-    fn sections(&self) -> Option<(Section, Section)> {
-        let section = Section::new(self.number)?;
-        Some((section, section))
     }
 }

@@ -2,6 +2,7 @@ ghost use Rattle.std.specs.Prelude.{◌≡◌, IsTrue, MatchOption};
 ghost use Rattle.twp_land.specs.LotMaps.{layout_of_bytes, layout_of_plat};
 ghost use Rattle.twp_grid.specs.Lands.{STANDARD_LAYOUT};
 
+use crate::growing_set::GrowingSet;
 use crate::lot_map::{DIVIDED_BYTES, LotMap, POSITION_BYTES};
 use crate::lotting::{Lotting, StandardLots};
 use crate::place_set::PlaceSet;
@@ -63,7 +64,7 @@ impl Lotting for PlatLots {
     }
 
     #[inline(always)]
-    fn add_section<S: PlaceSet>(&self, set: &mut S, section: Section) -> bool {
+    fn add_section<S: GrowingSet>(&self, set: &mut S, section: Section) -> bool {
         if self.mapped == 0 {
             return StandardLots.add_section(set, section);
         }
@@ -111,7 +112,7 @@ impl Lotting for PlatLots {
     }
 
     #[inline(always)]
-    fn add_lot<S: PlaceSet>(&self, set: &mut S, section: Section, number: u8) -> bool {
+    fn add_lot<S: GrowingSet>(&self, set: &mut S, section: Section, number: u8) -> bool {
         if self.mapped == 0 {
             return StandardLots.add_lot(set, section, number);
         }

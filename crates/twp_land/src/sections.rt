@@ -4,6 +4,7 @@ ghost use Rattle.twp_grid.specs.Lands.{LieWithin};
 ghost use Rattle.twp_land.specs.Storage.{held_by_section};
 ghost use Rattle.twp_land.specs.steps.Exchanges.{exchanged};
 
+use crate::growing_set::GrowingSet;
 use crate::land::Land;
 use crate::place_set::PlaceSet;
 use crate::plot::Plot;
@@ -56,8 +57,6 @@ impl<P: Plot> PlaceSet for Sections<P> {
     ghost within = { λ land section column row held.
         held_within P.held land.plots section column row P.within held };
 
-    ghost has_room = { λ land section. true };
-
     fn holds(&self, section: Section, column: u8, row: u8) -> bool {
         self.plot(section).holds(column, row)
     }
@@ -78,19 +77,6 @@ impl<P: Plot> PlaceSet for Sections<P> {
         self.plot(section).count(block)
     }
 
-    fn make_room(&mut self, _section: Section) -> bool {
-        true
-    }
-
-    #[inline(always)]
-    fn add_apart(&mut self, section: Section, block: Block) -> bool {
-        if self.meets(section, block) {
-            return false;
-        }
-        self.add(section, block);
-        true
-    }
-
     fn clear(&mut self) {
         for index in self.reach.first..self.reach.end {
             self.plots[index] = P::empty();
@@ -105,6 +91,23 @@ impl<P: Plot> PlaceSet for Sections<P> {
         let first = Section::new(self.reach.first as u8 + 1)?;
         let last = Section::new(self.reach.end as u8)?;
         Some((first, last))
+    }
+}
+
+impl<P: Plot> GrowingSet for Sections<P> {
+    ghost has_room = { λ land section. true };
+
+    fn make_room(&mut self, _section: Section) -> bool {
+        true
+    }
+
+    #[inline(always)]
+    fn add_apart(&mut self, section: Section, block: Block) -> bool {
+        if self.meets(section, block) {
+            return false;
+        }
+        self.add(section, block);
+        true
     }
 }
 

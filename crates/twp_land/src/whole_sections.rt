@@ -71,8 +71,6 @@ fn all_places() -> LaneRows
 impl PlaceSet for WholeSections {
     ghost places = { λ set. held_by_section all_if set.held };
 
-    ghost has_room = { λ set section. false };
-
     ghost use Rattle.twp_land.specs.steps.Within.{sections_within};
 
     ghost within = { λ set section column row held.
@@ -110,16 +108,6 @@ impl PlaceSet for WholeSections {
             return LaneRows::empty().count(block);
         }
         all_places().count(block)
-    }
-
-    #[inline]
-    fn make_room(&mut self, _section: Section) -> bool {
-        false
-    }
-
-    #[inline(always)]
-    fn add_apart(&mut self, _section: Section, _block: Block) -> bool {
-        false
     }
 
     fn clear(&mut self) {

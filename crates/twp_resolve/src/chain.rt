@@ -13,7 +13,7 @@ use crate::place_fault::PlaceFault;
 use crate::ranges::add_block;
 use twp_grammar::{Step, Steps, chain_block};
 use twp_grid::{Block, PLACE_DIGITS, Section};
-use twp_land::{Lotting, PlaceSet};
+use twp_land::{GrowingSet, Lotting};
 
 /// The number of quarters that reach a place of a section, and the number that reach a square of
 /// four places.
@@ -22,7 +22,7 @@ const TO_A_PLACE: usize = PLACE_DIGITS;
 const TO_FOUR_PLACES: usize = PLACE_DIGITS - 1;
 
 /// Resolves an aliquot part of a section.
-pub(crate) fn resolve_chain<L: PlaceSet, P: Lotting>(
+pub(crate) fn resolve_chain<L: GrowingSet, P: Lotting>(
     land: &mut L,
     section: Section,
     steps: &Steps,
@@ -47,7 +47,7 @@ pub(crate) fn resolve_chain<L: PlaceSet, P: Lotting>(
 
 /// Adds the block that an aliquot part's steps reach in a section.
 #[inline(always)]
-fn resolve_block<L: PlaceSet, P: Lotting>(
+fn resolve_block<L: GrowingSet, P: Lotting>(
     land: &mut L,
     section: Section,
     block: Block,

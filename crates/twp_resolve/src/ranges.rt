@@ -13,11 +13,11 @@ ghost use Rattle.twp_grammar.specs.declared.item.Item.TheVariants.{Sections, Lot
 use crate::place_fault::PlaceFault;
 use twp_grammar::Numeral;
 use twp_grid::{Block, Section};
-use twp_land::{Lotting, PlaceSet};
+use twp_land::{GrowingSet, Lotting};
 
 /// Resolves the sections from the first to the last, and returns the first. If they are whole, they
 /// are added; otherwise, parts of a single section follow.
-pub(crate) fn resolve_sections<L: PlaceSet, P: Lotting>(
+pub(crate) fn resolve_sections<L: GrowingSet, P: Lotting>(
     land: &mut L,
     first: Numeral,
     last: Numeral,
@@ -45,7 +45,7 @@ pub(crate) fn resolve_sections<L: PlaceSet, P: Lotting>(
 }
 
 /// Resolves `all` of a section.
-pub(crate) fn resolve_all<L: PlaceSet, P: Lotting>(
+pub(crate) fn resolve_all<L: GrowingSet, P: Lotting>(
     land: &mut L,
     section: Section,
     at: u32,
@@ -69,7 +69,7 @@ pub(crate) fn resolve_all<L: PlaceSet, P: Lotting>(
 }
 
 /// Resolves the section's lots from the first to the last.
-pub(crate) fn resolve_lots<L: PlaceSet, P: Lotting>(
+pub(crate) fn resolve_lots<L: GrowingSet, P: Lotting>(
     land: &mut L,
     section: Section,
     first: Numeral,
@@ -94,7 +94,7 @@ pub(crate) fn resolve_lots<L: PlaceSet, P: Lotting>(
 }
 
 /// Adds the section's lots from a first number to a last.
-fn add_lots<L: PlaceSet, P: Lotting>(
+fn add_lots<L: GrowingSet, P: Lotting>(
     land: &mut L,
     section: Section,
     first: u16,
@@ -120,7 +120,7 @@ fn add_lots<L: PlaceSet, P: Lotting>(
 }
 
 /// Adds the land of the sections from a first number to a last.
-fn add_sections<L: PlaceSet, P: Lotting>(
+fn add_sections<L: GrowingSet, P: Lotting>(
     land: &mut L,
     first: u8,
     last: u8,
@@ -190,7 +190,7 @@ pub(crate) fn section_of(number: Numeral) -> Result<Section, PlaceFault>
 }
 
 /// Adds a block of a section. It is refused as an overlap if the land contains a place of it.
-pub(crate) fn add_block<L: PlaceSet>(
+pub(crate) fn add_block<L: GrowingSet>(
     land: &mut L,
     section: Section,
     block: Block,

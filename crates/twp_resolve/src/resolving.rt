@@ -18,7 +18,7 @@ use crate::place_fault::PlaceFault;
 use crate::ranges::{resolve_all, resolve_lots, resolve_sections};
 use twp_grammar::Item;
 use twp_grid::{EastWest, NorthSouth, SECTIONS, Section, Township};
-use twp_land::{Land, Lotting, PlaceSet};
+use twp_land::{GrowingSet, Land, Lotting, PlaceSet};
 use twp_read::Description;
 
 /// The land that a description names on a plat with these lots: all places of its items, none of which
@@ -66,7 +66,7 @@ pub fn resolve_into<L: Land, P: Lotting>(
 
 /// Sets a set of places to the result of `resolve`, if it has room for it. If it has not, the result is
 /// `false`, and its content has no meaning, as after a fault.
-pub fn resolve_if_room<L: PlaceSet, P: Lotting>(
+pub fn resolve_if_room<L: GrowingSet, P: Lotting>(
     land: &mut L,
     description: &Description,
     township: Township,
@@ -92,7 +92,7 @@ pub fn resolve_if_room<L: PlaceSet, P: Lotting>(
 
 /// Adds an item to the land of the items before it, which has room for it, and returns the section
 /// of the next item.
-pub(crate) fn resolve_item<L: PlaceSet, P: Lotting>(
+pub(crate) fn resolve_item<L: GrowingSet, P: Lotting>(
     land: &mut L,
     section: Option<Section>,
     item: &Item,
@@ -176,7 +176,7 @@ pub fn names_one_section(description: &Description) -> bool {
 
 /// Makes room for the places of an item. `false` if there is none.
 #[inline(always)]
-pub(crate) fn make_room_for<L: PlaceSet>(
+pub(crate) fn make_room_for<L: GrowingSet>(
     land: &mut L,
     section: &Option<Section>,
     item: &Item,
@@ -202,7 +202,7 @@ pub(crate) fn make_room_for<L: PlaceSet>(
 
 /// Makes room for the places of the sections from a first number to a last. `false` if there is not
 /// enough.
-fn make_room_from<L: PlaceSet>(land: &mut L, first: u16, last: u16) -> bool
+fn make_room_from<L: GrowingSet>(land: &mut L, first: u16, last: u16) -> bool
     ensures places { L.places land.new ≡ L.places land.old }
     ensures room { IsTrue result → HaveRoom (L.has_room land.new) first last }
 {

@@ -10,5 +10,5 @@ invariant-loop-number g l = record {
   added : AreAdded (sections_from (lotting (g.P.Lotting.layout l.lots)) l.first (l.number - 1))
       (g.L.PlaceSet.places l.initial.land)
       (g.L.PlaceSet.places l.land);
-  room : g.L.PlaceSet.has_room l.land ≡ g.L.PlaceSet.has_room l.initial.land;
+  room : g.L.GrowingSet.has_room l.land ≡ g.L.GrowingSet.has_room l.initial.land;
 }

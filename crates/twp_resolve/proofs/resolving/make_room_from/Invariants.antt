@@ -7,5 +7,5 @@ abbrev pub invariant-loop-number : goal.invariant-loop-number
 invariant-loop-number g l = record {
   places : g.L.PlaceSet.places l.land ≡ g.L.PlaceSet.places l.initial.land;
   room : (section : ℕ) → IsSection section → l.first ≤ section → section < l.number
-      → IsTrue (g.L.PlaceSet.has_room l.land section);
+      → IsTrue (g.L.GrowingSet.has_room l.land section);
 }

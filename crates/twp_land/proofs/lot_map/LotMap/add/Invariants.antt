@@ -8,7 +8,7 @@ abbrev pub invariant-loop-found : goal.invariant-loop-found
 invariant-loop-found g l = record {
   added : AreAddedBelow l.section (marked l.self.positions l.self.divided l.section l.least l.most) l.from
       (g.S.PlaceSet.places l.fn.set) (g.S.PlaceSet.places l.set);
-  room : g.S.PlaceSet.has_room l.set ≡ g.S.PlaceSet.has_room l.fn.set;
+  room : g.S.GrowingSet.has_room l.set ≡ g.S.GrowingSet.has_room l.fn.set;
 }
 
 abbrev pub decreases-loop-found : goal.decreases-loop-found

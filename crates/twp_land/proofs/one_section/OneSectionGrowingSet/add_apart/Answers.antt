@@ -5,7 +5,7 @@ use Rattle.std.proofs.lemmas.Bool.Decides.{nat_tests}
 use Rattle.twp_grid.specs.Winding.{SECTION_COUNT, IsSection}
 use Rattle.twp_land.specs.Storage.{is_section}
 use Rattle.twp_land.proofs.OneSections.{added_in_one}
-use Rattle.twp_land.proofs.one_section.OneSectionPlaceSet.add_apart.Goals as goal
+use Rattle.twp_land.proofs.one_section.OneSectionGrowingSet.add_apart.Goals as goal
 
 pub returns-clause-places : goal.returns-clause-places
 returns-clause-places g c = λ apart.
