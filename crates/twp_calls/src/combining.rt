@@ -75,7 +75,8 @@ pub fn township_land_combine(
     if !is_same_township(township, other) {
         return TownshipAnswer::bare(OTHER_TOWNSHIP);
     }
-    if !first.plat().is_same(second.plat()) {
+    let plat = first.plat();
+    if !plat.is_same(second.plat()) {
         return TownshipAnswer::bare(OTHER_PLAT);
     }
     operation.write(&first.rows, &second.rows, &mut land.rows);

@@ -34,7 +34,7 @@ returns-then-not-is_same-clause-answer c =
     (agree _ c.in-Some.township c.in-Some-valid_township.other c.in-Some.township
     c.is_same_township.result _ refl c.is_same_township.ensures c.if-not-is_same_township.false
     (on_two _ (IsCombined c.in-Some-operation_of.operation c.in-Some.township _ _ _ _) c.is_same.result _
-    (same_plats _ _ _ _ c.is_same.result c.plat.ensures c.plat-2.ensures c.is_same.ensures)
+    (same_plats _ _ _ _ c.is_same.result c.plat-plat.ensures c.plat.ensures c.is_same.ensures)
     c.if-not-is_same.true c.bare-then-not-is_same.ensures))))
 
 pub returns-clause-answer : goal.returns-clause-answer
@@ -45,13 +45,13 @@ returns-clause-answer c =
     (agree _ c.in-Some.township c.in-Some-valid_township.other c.in-Some.township
     c.is_same_township.result _ refl c.is_same_township.ensures c.if-not-is_same_township.false
     (on_one _ (IsCombined c.in-Some-operation_of.operation c.in-Some.township _ _ _ _) c.is_same.result _
-    (same_plats _ _ _ _ c.is_same.result c.plat.ensures c.plat-2.ensures c.is_same.ensures)
+    (same_plats _ _ _ _ c.is_same.result c.plat-plat.ensures c.plat.ensures c.is_same.ensures)
     c.if-not-is_same.false (record {
       given =
           combined_given c.in-Some-operation_of.operation c.in-Some.township c.args.first.now
           c.args.second.now _ _ _ c.in-Some.ensures c.in-Some-valid_township.other
           c.in-Some-valid_township.ensures
-          ((same_plats _ _ _ _ c.is_same.result c.plat.ensures c.plat-2.ensures
+          ((same_plats _ _ _ _ c.is_same.result c.plat-plat.ensures c.plat.ensures
           c.is_same.ensures).0 c.if-not-is_same.false) refl refl
           c.write.ensures;
       plat_is = refl;
