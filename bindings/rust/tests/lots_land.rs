@@ -235,7 +235,7 @@ fn number_in_a_gap() {
         (4, Some("the nearest lots are 2 and 5")),
         (6, None),
     ] {
-        let refused = lots.acres(&format!("sec. 14, lot {lot}.")).unwrap_err();
+        let refused = lots.acres(format!("sec. 14, lot {lot}.")).unwrap_err();
         assert_eq!(refused.number, 64);
         assert_eq!(refused.sentence(), "section 14 has lots 2 and 5");
         assert_eq!(refused.hints().first().map(String::as_str), hint);
