@@ -1,7 +1,8 @@
 """`python -m township acres` and `python -m township compare`, as they are run from a command line."""
 import unittest
+from importlib.util import find_spec
 
-from batches import NOTES, BatchCase
+from batches import NOTES, BatchCase, WorkbookCase
 from samples import TOP
 
 TRACTS = TOP / "samples" / "tracts.csv"
@@ -148,6 +149,31 @@ class Compare(MeasuringCase):
     def test_misused(self):
         self.assertMisused("name the field notes and description A and description B", "compare", NOTES, self.one)
         self.assertMisused("name description A and description B", "compare", "--lots", NOTES, self.one)
+
+
+@unittest.skipUnless(find_spec("openpyxl"), "openpyxl isn't installed")
+class Workbooks(WorkbookCase):
+    def test_lot_table(self):
+        table = self.workbook(("section", "lot", "acres"), ("T", 2, "N", 3, "W"), (5, 1, 40.5), name="lots.xlsx")
+        land, lease = self.put("sec. 5, lot 1.", "land.txt"), self.put("Lot 1, Sec 5", "lease.txt")
+        for words, said in ((("acres", land), b"40.50 acres\n"), (("compare", land, land), b"both: 40.50 acres\n"),
+                            (("suggest", lease), b"40.50 acres\n")):
+            with self.subTest(words=words[0]):
+                run = self.run_words(words[0], "--lots", table, *words[1:])
+                self.assertEqual((run.returncode, run.stderr), (0, b""))
+                self.assertIn(said, run.stdout)
+
+    def test_refused(self):
+        table = self.workbook(("section", "lot", "acres"), ("T", 2, "N", 3, "W"), (5, 1, 40.455), name="lots.xlsx")
+        run = self.run_words("acres", "--lots", table, self.put("sec. 5, lot 1.", "land.txt"))
+        self.assertEqual((run.returncode, run.stdout), (1, b"refused 92 at 3\n"))
+        self.assertTrue(run.stderr.startswith(f"township: {table}:3: ".encode()), run.stderr)
+
+    def test_files_that_are_no_workbooks(self):
+        for table in (self.put(TABLE, "lots.xlsx"), self.folder / "none.xlsx"):
+            run = self.run_words("acres", "--lots", table, self.put("sec. 5, lot 1.", "land.txt"))
+            self.assertEqual((run.returncode, run.stdout), (3, b""))
+            self.assertTrue(run.stderr.startswith(f"township: cannot read {table}: ".encode()), run.stderr)
 
 
 class Help(BatchCase):

@@ -16,6 +16,7 @@ from ._lots import Lots
 from ._plat import Plat
 from ._refused import Refused, failure_of
 from ._text import shown
+from ._workbook import is_workbook, table_of_workbook
 from ._written import text_by
 
 #: The file descriptors of standard input and standard output.
@@ -153,7 +154,10 @@ def _basis_in(name: str, is_lots: bool) -> Union[Plat, Lots]:
 
 
 def _lots_in(name: str) -> Lots:
-    """Return the lot table in a file."""
+    """Return the lot table in a file, or in the first sheet of a workbook."""
+    if is_workbook(name):
+        with reading(_shown(name)):
+            return Lots._read(table_of_workbook(name), _source(name))
     return Lots._read(_bytes_in(name, _library.LOTS_TEXT_MOST), _source(name))
 
 
