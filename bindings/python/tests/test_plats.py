@@ -364,6 +364,22 @@ class LandsTest(unittest.TestCase):
         self.assertTrue(lands.contains("T3N R3W sec. 31, lot 1; T2N R3W sec. 14, NE1/4"))
         self.assertFalse(lands.contains("T3N R3W sec. 31, lot 1; T4N R3W sec. 14, NE1/4"))
 
+    def test_what_is_in_land(self) -> None:
+        lands = Lands.of("T2N R3W sec. 14; T3N R3W sec. 31")
+        for text, inside in (("T2N R3W sec. 14, N1/2", True), ("T2N R3W sec. 15", False), ("T4N R3W sec. 14", False)):
+            for other in (text, text.encode(), Lands.of(text), next(iter(Lands.of(text)))):
+                self.assertEqual((other in lands, lands.contains(other)), (inside, inside))
+        with self.assertRaises(Refused):
+            self.assertIn("sec. 14", lands)
+
+    def test_what_is_in_land_of_a_lot_table(self) -> None:
+        own = Lots.read("section,lot,acres,land\nT,3,N,3,W,1912-03-04\n14,1,38.50,NE1/4NE1/4\n")
+        dated = Lots.read("section,lot,acres\nT,3,N,3,W,1912-03-04\n5,1,40.45\n")
+        for lots, text in ((own, "sec. 14, lot 1"), (dated, "sec. 5, lot 1")):
+            lands = Lands([lots.land("secs. 5 and 14"), Land.of(HERE, "sec. 14")])
+            self.assertTrue(lands.contains(f"T3N R3W {text}; T2N R3W sec. 14, N1/2"))
+            self.assertFalse(lands.contains(f"T3N R3W {text}; T2N R3W sec. 15"))
+
     def test_representations_are_short(self) -> None:
         lands = Lands.of("T2N R3W secs. 1 to 36; T3N R3W secs. 1 to 36")
         self.assertLessEqual(len(repr(lands)), 130)

@@ -126,13 +126,27 @@ class Lands:
         """
         return not self.isdisjoint(other)
 
-    def contains(self, other: Union[Lands, Text]) -> bool:
-        """Return whether each place of the other value, or of a text, is in this one.
+    def contains(self, other: Union[Lands, Land, Text]) -> bool:
+        """Return whether each place of the other value, or of a text, is in this one. `in` returns it, too.
 
-        >>> township.Lands.of("T2N R3W sec. 14; T3N R3W sec. 31").contains("T2N R3W sec. 14, N1/2")
-        True
+        A text is read with the lots of this land.
+
+        >>> lease = township.Lands.of("T2N R3W sec. 14; T3N R3W sec. 31")
+        >>> lease.contains("T2N R3W sec. 14, N1/2"), "T2N R3W sec. 15" in lease
+        (True, False)
         """
-        return (other if isinstance(other, Lands) else Lands.of(other)) <= self
+        if isinstance(other, Land):
+            return Lands([other]) <= self
+        return (other if isinstance(other, Lands) else self._described(other)) <= self
+
+    def _described(self, text: Text) -> Lands:
+        """Return the land that a text names, in each township on the plat of this land."""
+        mine = self._by_township
+        lands = Lands._read(text, lambda township: mine[township].lots if township in mine else None)
+        for land in lands:
+            if land.township in mine:
+                land._parts.date = mine[land.township]._parts.date
+        return lands
 
     def on_one_line(self) -> str:
         """Return the canonical text on one line.
@@ -192,6 +206,9 @@ class Lands:
 
     def __bool__(self) -> bool:
         return bool(self._by_township)
+
+    def __contains__(self, other: Union[Lands, Land, Text]) -> bool:
+        return self.contains(other)
 
     def __len__(self) -> int:
         return len(self._by_township)
