@@ -127,6 +127,17 @@ class PlatsTest(unittest.TestCase):
         self.assertIsNone(plats().get("T4N R3W"))
         self.assertEqual(repr(plats()), "<township.Plats: 2 townships>")
 
+    def test_made_from_a_mapping(self) -> None:
+        wanted = plats()
+        for given in (wanted, dict(wanted), {"T2N R3W": uneven(), (3, "N", 3, "W"): TABLE}):
+            self.assertEqual(dict(Plats(given)), dict(wanted))
+        with self.assertRaisesRegex(ValueError, "for T. 3 N., R. 3 W. is for T. 2 N., R. 3 W."):
+            Plats({NORTH: uneven()})
+        for wrong in ("county", ["county/2N-3W.csv"], {HERE: "county/2N-3W.csv"}):
+            with self.assertRaisesRegex(TypeError, "not str; Plats.open reads a folder"):
+                Plats(wrong)  # type: ignore[arg-type, dict-item, list-item]
+        self.assertEqual(repr(Plats([uneven()])), "<township.Plats: 1 township>")
+
     def test_a_lot_table_controls(self) -> None:
         table = Lots.of_figures("T. 2 N., R. 3 W.", {(5, 1): "40.00"})
         for given in ([uneven(), table], [table, uneven()], [table, uneven(), table, uneven()]):

@@ -4,7 +4,7 @@ from __future__ import annotations
 import datetime
 from decimal import Decimal
 from fractions import Fraction
-from typing import Dict, Iterable, Iterator, List, Mapping, NamedTuple, Optional, Tuple, Union
+from typing import Any, Dict, Iterable, Iterator, List, Mapping, NamedTuple, Optional, Tuple, Union
 
 from . import _library
 from ._account import Account, code_of
@@ -70,9 +70,10 @@ class PlatsReport(NamedTuple):
 class Plats(Mapping[Township, Basis]):
     """The plats and lot tables of several townships on one principal meridian.
 
-    To make them, call `Plats` with plats and lot tables, or `Plats.open` with a folder. A township can have a plat and
-    a lot table: the lot table then controls, as the acreage that the approved plat returns. Of lot tables with
-    different dates, the newest one does; a table without a date counts as older than any other.
+    To make them, call `Plats` with plats and lot tables, or with a mapping to them from their townships, or `Plats.open`
+    with a folder. A township can have a plat and a lot table: the lot table then controls, as the acreage that the
+    approved plat returns. Of lot tables with different dates, the newest one does; a table without a date counts as
+    older than any other.
 
     >>> table = township.Lots.of_figures("T. 3 N., R. 3 W.", {(31, 1): "38.97", (31, 2): "39.01"})
     >>> plats = township.Plats([plat, table])
@@ -88,10 +89,10 @@ class Plats(Mapping[Township, Basis]):
 
     __slots__ = ("_by_township",)
 
-    def __init__(self, plats: Iterable[Basis] = ()) -> None:
+    def __init__(self, plats: Union[Iterable[Basis], Mapping[Any, Basis]] = ()) -> None:
         self._by_township: Dict[Township, Basis] = {}
         kept: Dict[Tuple[Township, _Age], Basis] = {}
-        for each in plats:
+        for each in _each_of(plats):
             age = _age_of(each)
             if kept.setdefault((each.township, age), each) != each:
                 kind = "lot tables" if isinstance(each, Lots) else "field notes"
@@ -128,7 +129,7 @@ class Plats(Mapping[Township, Basis]):
         return len(self._by_township)
 
     def __repr__(self) -> str:
-        return f"<township.Plats: {len(self)} townships>"
+        return f"<township.Plats: {len(self)} {'township' if len(self) == 1 else 'townships'}>"
 
     def land(self, text: Text) -> Lands:
         """Return the land that a text names, in all its townships: see `Lands.of`.
@@ -296,6 +297,25 @@ class Plats(Mapping[Township, Basis]):
         except Refused as refused:
             inner = Refusal(refused.number, refused.at)
             raise _refused(_library.REFUSAL_TRACT_REFUSED, index, str(refused), inner) from refused
+
+
+def _each_of(plats: Union[Iterable[Basis], Mapping[Any, Basis]]) -> Iterator[Basis]:
+    """Yield plats and lot tables. In a mapping, each has the key of its own township."""
+    if isinstance(plats, Mapping):
+        for named, each in plats.items():
+            township = township_named(named)
+            if _checked(each).township != township:
+                raise ValueError(f"the plat or lot table for {township} is for {each.township}")
+            yield each
+    else:
+        yield from map(_checked, plats)
+
+
+def _checked(by: Basis) -> Basis:
+    """Return a plat or a lot table. Raise `TypeError` for anything else, such as the name of a file."""
+    if not isinstance(by, (Plat, Lots)):
+        raise TypeError(f"Plats takes Plat and Lots, not {type(by).__name__}; Plats.open reads a folder")
+    return by
 
 
 #: Whether acreage is that of a lot table, and the table's date. Of two in a township, the greater one controls.
