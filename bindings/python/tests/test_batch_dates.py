@@ -107,6 +107,19 @@ class Dates(DatesCase):
             self.put(f"section,lot,acres,land\n{record}\n14,1,x,NE1/4NE1/4\n", "plats/newest.csv")
             self.assertEqual(self.over(rows[:1], status=1), [("37.25", "", "new.csv")])
 
+    def test_field_notes_are_not_used_if_the_table_is_refused(self):
+        for name in ("old", "new", "undated"):
+            (self.folder / "plats" / f"{name}.csv").unlink()
+        notes = self.put_notes("plats/notes.csv")
+        for record, dated in (("T,2,N,3,W", ""), ("T;2;N;3;W;;", ""), ("T,2,N,3,W,1912-03-04", " of 1912-03-04")):
+            bad = self.put(f"section,lot,acres\n{record}\n5,1,39.00\n5,9,40.00\n", "plats/table.csv")
+            fault = f"the lot table{dated} for T. 2 N., R. 3 W. is refused: {bad}"
+            self.assertEqual(self.over([',T2N R3W,"sec. 5, lot 1."'], status=1), [("", fault, "")])
+        # Field notes that are refused, too, are no lot table.
+        bad.unlink()
+        self.put(notes.read_text().replace("N,5,6,40.00,80.40", "N,5,6,40.00,90.40"), "plats/again.csv")
+        self.assertEqual(self.over([',T2N R3W,"sec. 5, lot 1."'], status=1), [("40.45", "", "notes.csv")])
+
     def test_two_tables_without_a_date(self):
         for name in ("old", "new"):
             (self.folder / "plats" / f"{name}.csv").unlink()

@@ -10,8 +10,10 @@ from .._township import Township
 
 _DATE = re.compile(r"[0-9]{4}-[0-9]{2}-[0-9]{2}", re.ASCII)
 
-#: The record of a township with a date, as a spreadsheet may write it.
-_SECOND = re.compile(r"T[,;\t]([0-9]{1,2})[,;\t]([NS])[,;\t]([0-9]{1,2})[,;\t]([EW])[,;\t]([0-9-]{10})(?:[,;\t]|$)", re.ASCII)
+#: The record of a township, perhaps with a date, as a spreadsheet may write it.
+_SECOND = re.compile(
+    r"T[,;\t]([0-9]{1,2})[,;\t]([NS])[,;\t]([0-9]{1,2})[,;\t]([EW])(?:[,;\t]([0-9-]{10}))?(?:[,;\t]|$)", re.ASCII
+)
 
 #: The most dates that a sentence lists.
 _LISTED_MOST = 6
@@ -56,11 +58,11 @@ class Dated(NamedTuple):
     """What the second record of a lot table says: which township it is for, and when its plat was approved."""
 
     township: Township
-    date: datetime.date
+    date: Optional[datetime.date]
 
 
 def dated_in(table: bytes) -> Optional[Dated]:
-    """Return what the second record of a lot table says that is refused, or `None` if it has no date.
+    """Return what the second record of a lot table says that is refused, or `None` if it is not of a township.
 
     >>> dated_in(b"section,lot,acres\\nT,2,N,3,W,1912-03-04\\n5,1\\n").date
     datetime.date(1912, 3, 4)
@@ -71,8 +73,8 @@ def dated_in(table: bytes) -> Optional[Dated]:
         return None
     number, north_south, range_number, east_west, date = found.groups()
     try:
-        day = date_in(date)
+        day = date_in(date or "")
         named = township_named((int(number), north_south, int(range_number), east_west))
     except ValueError:
         return None
-    return None if day is None else Dated(named, day)
+    return Dated(named, day)

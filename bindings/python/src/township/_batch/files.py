@@ -78,6 +78,11 @@ def basis_in(file: str) -> Basis:
     raise _stopped(explained)
 
 
+def is_meant_as_lots(text: bytes) -> bool:
+    """Return whether a text begins as a lot table does, perhaps as a spreadsheet spoiled it."""
+    return _MEANT_AS_LOTS.match(text) is not None
+
+
 def _tried(text: bytes, file: str) -> Tuple[Union[Plat, Refused], Union[Lots, Refused]]:
     """Return what a text is as field notes, and as a lot table."""
     name = shown(file).encode("utf-8", "backslashreplace")

@@ -11,7 +11,7 @@ from .._lots import Lots
 from .._text import Path, shown
 from .._township import Township
 from .dates import dated_in, listed
-from .files import Basis, Unrecognized, basis_in
+from .files import Basis, Unrecognized, basis_in, is_meant_as_lots
 from .stopped import Status, Stopped, reading
 
 _SUFFIX = ".csv"
@@ -64,7 +64,7 @@ class PlatFiles:
 
         The acreage that the approved plat returns controls: a lot table comes before field notes. Of several tables,
         it is that of the date, or without one the newest: a table without a date counts as older than any other. No
-        older table is used if the newest is refused. Several files of a kind, and of one date, must be the same: if
+        older table, and no field notes, are used if the newest is refused. Several files of a kind, and of one date, must be the same: if
         they are not, one of them is not of this township, and perhaps the others aren't, either.
         """
         different = self._different()
@@ -74,7 +74,7 @@ class PlatFiles:
             dated = next((each for each in self.tables if each.date == date), None)
             return dated or self._without(date, folder)
         newest = max(self.tables, key=_age, default=None)
-        if self.refused and max(self.refused) > (_NO_DATE if newest is None else _age(newest)):
+        if self.refused and (newest is None or max(self.refused) > _age(newest)):
             return self._refused(max(self.refused))
         return newest or self.notes[0]
 
@@ -100,10 +100,10 @@ class PlatFiles:
             others = f"; there is one of {listed(dates)}"
         return NoFile(f"there is no lot table of {date} for {self.township} in {folder}{others}", is_missing=True)
 
-
     def _refused(self, date: datetime.date) -> NoFile:
         """Return that the lot table of a date is refused."""
-        return NoFile(f"the lot table of {date} for {self.township} is refused: {shown(self.refused[date])}")
+        dated = f" of {date}" if date != _NO_DATE else ""
+        return NoFile(f"the lot table{dated} for {self.township} is refused: {shown(self.refused[date])}")
 
 
 def _age(table: PlatFile) -> datetime.date:
@@ -170,11 +170,13 @@ class Folder:
         return self.meridians.setdefault(meridian, {}).setdefault(township, PlatFiles(township))
 
     def _note_refused(self, path: str, meridian: str) -> None:
-        """Note which plat a file that is refused is about, if its second record says so."""
+        """Note which plat a lot table that is refused is about, if its second record says so."""
         with reading(path), open(path, "rb") as file:
-            dated = dated_in(file.read(_library.LOTS_TEXT_MOST))
-        if dated is not None:
-            self._files_of(dated.township, meridian).refused[dated.date] = path
+            text = file.read(_library.LOTS_TEXT_MOST)
+        dated = dated_in(text)
+        # Field notes have no date.
+        if dated is not None and (dated.date or is_meant_as_lots(text)):
+            self._files_of(dated.township, meridian).refused[dated.date or _NO_DATE] = path
 
     def _is_other(self, path: str) -> bool:
         """Return whether a file is the list, or the output."""
