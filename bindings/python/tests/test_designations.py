@@ -162,6 +162,9 @@ class Spellings(unittest.TestCase):
             ("½ N", 1, 1, "unexpected `½ N`; expected the township number, 1 to 99"),
             ("T2N R3W " + "é " * 40, 1, 9, f"unexpected `{'é ' * 30} ..`; expected nothing after the township"),
             ("T2N R3", 1, 7, "incomplete township: expected E or W"),
+            ("T2N\u00a0R3W", 1, 4, r"unexpected `\u{A0}R3W`; expected the range, as in R. 3 W."),
+            ("T2N R3W\u00a0", 1, 8, r"unexpected `\u{A0}`; expected nothing after the township"),
+            ("T2N \x1b[31m", 1, 5, r"unexpected `\u{1B}[31m`; expected the range, as in R. 3 W."),
             (" \t", 1, 3, "the township is missing"),
         ):
             with self.subTest(text=text), self.assertRaises(Refused) as caught:

@@ -2,6 +2,7 @@
 from __future__ import annotations
 
 import functools
+import re
 from ctypes import byref
 from typing import Tuple, Union
 
@@ -27,6 +28,9 @@ _TOO_LARGE = 36
 
 #: The most characters of a text that a sentence shows.
 _SHOWN_MOST = 60
+
+#: What is between the white space that a spelling can have.
+_WORDS = re.compile(r"[^ \t\n\v\f\r]+")
 
 
 def township_named(named: Named) -> Township:
@@ -115,6 +119,9 @@ def _refused(given: bytes, number: int, at: int) -> Refused:
 
 
 def _shortened(text: str) -> str:
-    """Return a text on one line, without white space around it and without its end if it is long."""
-    line = " ".join(text.split())
+    """Return a text on one line, without white space around it and without its end if it is long.
+
+    A character that can't be printed, such as a no-break space, is shown by its number.
+    """
+    line = "".join(each if each.isprintable() else f"\\u{{{ord(each):X}}}" for each in " ".join(_WORDS.findall(text)))
     return line if len(line) <= _SHOWN_MOST else f"{line[:_SHOWN_MOST]} .."
