@@ -8,7 +8,7 @@ import unittest
 from typing import List, NamedTuple, Optional, Tuple
 
 from samples import TOP
-from township import Refused, Township
+from township import Land, Refused, Township
 
 _SMALL = "one two three four five six seven eight nine".split()
 _TEENS = "ten eleven twelve thirteen fourteen fifteen sixteen seventeen eighteen nineteen".split()
@@ -173,6 +173,15 @@ class Spellings(unittest.TestCase):
             self.assertEqual((refused.line, refused.column, refused.sentence), (line, column, sentence))
             self.assertEqual(str(refused), f"township:{line}:{column}: {sentence}")
             self.assertEqual(refused.explanation, f"township: {refused}\n")
+
+    def test_what_is_named(self):
+        for named in ("2N-3W", b"2N-3W", (2, "N", 3, "W"), [2, "N", 3, "W"], Township(2, "N", 3, "W")):
+            self.assertEqual(Land.empty(named).township, (2, "N", 3, "W"))
+        with self.assertRaisesRegex(ValueError, "a township has four parts, such as .*, not 3"):
+            Land.empty((2, "N", 3))
+        for wrong in (None, 5, Land.empty("2N-3W")):
+            with self.assertRaisesRegex(TypeError, "a township is a text or its four parts, not "):
+                Land.empty(wrong)
 
     def test_each_township_is_read_back(self):
         counted = 0

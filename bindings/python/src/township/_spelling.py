@@ -36,12 +36,16 @@ _WORDS = re.compile(r"[^ \t\n\v\f\r]+")
 def township_named(named: Named) -> Township:
     """Return a township that is given by its spelling, or by the parts of its designation.
 
-    Raise `ValueError` if it is not a township.
+    Raise `ValueError` if it is not a township, and `TypeError` for any other value.
 
     >>> township_named("T2N R3W") == township_named((2, "N", 3, "W"))
     True
     """
-    return township_spelled(named) if isinstance(named, str) else checked(named)
+    if isinstance(named, (str, bytes)):
+        return township_spelled(named)
+    if not isinstance(named, (tuple, list)):
+        raise TypeError(f"a township is a text or its four parts, not {type(named).__name__}")
+    return checked(named)
 
 
 @functools.lru_cache(maxsize=1024)

@@ -120,6 +120,8 @@ def _township_of(number: int, north_south: int, range_number: int, east_west: in
 
 def checked(township: Tuple[int, str, int, str]) -> Township:
     """Return the designation of a township. Raise `ValueError` if it is not one."""
+    if len(township) != len(_Designation._fields):
+        raise ValueError(f"a township has four parts, such as (2, 'N', 3, 'W'), not {len(township)}")
     number, north_south, range_number, east_west = township
     return Township(number, cast(NorthSouth, north_south), range_number, cast(EastWest, east_west))
 
