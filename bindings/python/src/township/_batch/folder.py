@@ -64,8 +64,8 @@ class PlatFiles:
 
         The acreage that the approved plat returns controls: a lot table comes before field notes. Of several tables,
         it is that of the date, or without one the newest: a table without a date counts as older than any other. No
-        older table, and no field notes, are used if the newest is refused. Several files of a kind, and of one date, must be the same: if
-        they are not, one of them is not of this township, and perhaps the others aren't, either.
+        older table, and no field notes, are used if the newest is refused. Several files of a kind, and of one date,
+        must be the same: if they are not, one of them is not of this township, and perhaps the others aren't, either.
         """
         different = self._different()
         if different is not None:
