@@ -4,6 +4,7 @@ use crate::account::Account;
 use crate::acres::Acres;
 use crate::answer::OtherPlat;
 use crate::area::Area;
+use crate::date::Date;
 use crate::land::Land;
 use crate::lands::Lands;
 use crate::lots::{Lots, NoLandAcres};
@@ -36,7 +37,8 @@ pub enum Basis {
 ///
 /// To make them, call [`Plats::new`] with plats and lot tables, or [`Plats::open`] with a folder. A
 /// township can have a plat and a lot table: the lot table then controls, as the acreage that the approved
-/// plat returns.
+/// plat returns. Of lot tables with different dates, the newest one does; a table without a date counts as
+/// older than any other.
 ///
 /// The acreage of a text is the exact sum of the exact areas in all its townships, rounded once. The
 /// meridian is not part of a text.
@@ -86,7 +88,7 @@ pub enum NoAcres {
     OtherPlat(OtherPlat),
 }
 
-/// The error for two different plats, or two different lot tables, of one township.
+/// The error for two different plats, or two different lot tables with the same date, of one township.
 #[derive(Clone, Copy, Debug, PartialEq, Eq, Hash)]
 #[cfg_attr(feature = "serde", derive(serde::Serialize, serde::Deserialize))]
 #[non_exhaustive]
@@ -103,14 +105,15 @@ impl Plats {
     ///
     /// # Errors
     ///
-    /// Returns [`DifferentPlats`] if a township has two different plats, or two different lot tables.
+    /// Returns [`DifferentPlats`] if a township has two different plats, or two different lot tables with the
+    /// same date, or without one.
     pub fn new<B: Into<Basis>>(
         plats: impl IntoIterator<Item = B>,
     ) -> Result<Plats, DifferentPlats> {
-        let mut kept: BTreeMap<(Township, bool), Basis> = BTreeMap::new();
+        let mut kept: BTreeMap<(Township, bool, Option<Date>), Basis> = BTreeMap::new();
         for basis in plats {
             let basis = basis.into();
-            let key = (basis.township(), basis.is_lot_table());
+            let key = (basis.township(), basis.is_lot_table(), basis.date());
             match kept.get(&key) {
                 Some(other) if *other != basis => {
                     return Err(DifferentPlats {
@@ -121,10 +124,11 @@ impl Plats {
                 _ => kept.insert(key, basis),
             };
         }
-        // The lot table of a township comes after its plat, and replaces it.
+        // The lot tables of a township come after its plat, from the oldest to the newest, and each replaces
+        // the one before.
         let by_township = kept
             .into_iter()
-            .map(|((township, _), basis)| (township, basis))
+            .map(|((township, ..), basis)| (township, basis))
             .collect();
         Ok(Plats { by_township })
     }
@@ -278,6 +282,14 @@ impl Basis {
 
     fn is_lot_table(&self) -> bool {
         matches!(self, Basis::Lots(_))
+    }
+
+    /// Returns the date of a lot table, if it has one.
+    fn date(&self) -> Option<Date> {
+        match self {
+            Basis::Plat(_) => None,
+            Basis::Lots(lots) => lots.date(),
+        }
     }
 
     /// Returns the exact area of land in the township. A refusal names the township.

@@ -35,8 +35,9 @@ fn sentence_of(number: u32, rest: &str, text: &str) -> String {
         35 => "nothing after the township",
         _ => "a township, as in T. 2 N., R. 3 W.",
     };
-    if !rest.trim().is_empty() {
-        return format!("unexpected `{}`; expected {expected}", shortened(rest));
+    let rest = shortened(rest);
+    if !rest.is_empty() {
+        return format!("unexpected `{rest}`; expected {expected}");
     }
     if text.trim().is_empty() {
         return "the township is missing".to_owned();
@@ -44,12 +45,23 @@ fn sentence_of(number: u32, rest: &str, text: &str) -> String {
     format!("incomplete township: expected {expected}")
 }
 
-/// Returns a text on one line, without white space around it and without its end if it is long.
+/// Returns a text on one line, without white space around it and without its end if it is long. A character
+/// that can't be printed, such as a no-break space, is shown by its number.
 fn shortened(text: &str) -> String {
-    let line = text.split_whitespace().collect::<Vec<_>>().join(" ");
+    let words: Vec<&str> = text.split_ascii_whitespace().collect();
+    let line: String = words.join(" ").chars().map(shown).collect();
     match line.char_indices().nth(SHOWN_MOST) {
         Some((end, _)) => format!("{} ..", &line[..end]),
         None => line,
+    }
+}
+
+/// Returns a character, or its number if it can't be printed.
+fn shown(character: char) -> String {
+    if matches!(character, '\'' | '"' | '\\') || character.escape_debug().count() == 1 {
+        character.to_string()
+    } else {
+        format!("\\u{{{:X}}}", u32::from(character))
     }
 }
 
@@ -80,6 +92,18 @@ mod tests {
         assert_eq!(
             refused(33, 4, "T2N\n"),
             "township:2:1: incomplete township: expected the range, as in R. 3 W."
+        );
+    }
+
+    #[test]
+    fn characters_that_cannot_be_printed_are_shown_by_their_numbers() {
+        assert_eq!(
+            refused(33, 3, "T2N\u{a0}R3W"),
+            "township:1:4: unexpected `\\u{A0}R3W`; expected the range, as in R. 3 W."
+        );
+        assert_eq!(
+            refused(35, 5, "2N-3W \u{1b}\"[31m\u{e9}"),
+            "township:1:6: unexpected `\\u{1B}\"[31m\u{e9}`; expected nothing after the township"
         );
     }
 

@@ -196,6 +196,28 @@ fn two_plats_of_a_township() {
 }
 
 #[test]
+fn the_newest_of_several_lot_tables_controls() {
+    let dated = |date: &str, figure: &str| {
+        lots(&format!(
+            "section,lot,acres\nT,2,N,3,W{date}\n5,1,{figure}\n"
+        ))
+    };
+    let undated = dated("", "40.00");
+    let old = dated(",1880-01-02", "40.01");
+    let new = dated(",1912-03-04", "40.02");
+    let by = |given: Vec<Basis>| {
+        let plats = Plats::new(given).unwrap();
+        plats.acres("T2N R3W sec. 5, lot 1").unwrap()
+    };
+    let all = [&new, &undated, &old].map(|table| Basis::from(table.clone()));
+    assert_eq!(by(all.to_vec()), acres("40.02"));
+    assert_eq!(by(all[1..].to_vec()), acres("40.01"));
+    assert_eq!(by(vec![undated.into(), uneven().into()]), acres("40.00"));
+    let error = Plats::new([new, dated(",1912-03-04", "40.03")]).unwrap_err();
+    assert!(error.are_lot_tables);
+}
+
+#[test]
 fn a_map_of_townships() {
     let map: BTreeMap<Township, Basis> = plats()
         .iter()
