@@ -12,6 +12,9 @@ const TOO_LARGE: u32 = 36;
 /// The most characters of a text that a sentence shows.
 const SHOWN_MOST: usize = 60;
 
+/// The white space that a spelling can have.
+const WHITE: [char; 6] = [' ', '\t', '\n', '\u{b}', '\u{c}', '\r'];
+
 /// Returns the refusal of a text that spells no township, with its explanation.
 pub(crate) fn refused_township(fault: Fault, text: &str) -> Refused {
     let Refusal { number, at } = fault.refusal;
@@ -48,7 +51,7 @@ fn sentence_of(number: u32, rest: &str, text: &str) -> String {
 /// Returns a text on one line, without white space around it and without its end if it is long. A character
 /// that can't be printed, such as a no-break space, is shown by its number.
 fn shortened(text: &str) -> String {
-    let words: Vec<&str> = text.split_ascii_whitespace().collect();
+    let words: Vec<&str> = text.split(WHITE).filter(|word| !word.is_empty()).collect();
     let line: String = words.join(" ").chars().map(shown).collect();
     match line.char_indices().nth(SHOWN_MOST) {
         Some((end, _)) => format!("{} ..", &line[..end]),
