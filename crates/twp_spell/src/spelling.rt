@@ -9,7 +9,7 @@ ghost use Rattle.twp_spell.specs.steps.SpellingSteps.{entries_text, HasLotsText,
 ghost use Rattle.twp_grid.specs.Lands.{lotting};
 
 use crate::line_start::LineStart;
-use crate::written_parts::write_parts;
+use crate::written_parts::{places_off_lots, write_parts};
 use itoa::Buffer;
 use std::alloc::{AllocError, Global};
 use twp_grid::{Block, Section, Township};
@@ -123,7 +123,7 @@ fn write_section<L: PlaceSet, P: Lotting>(
         return write_all(text);
     }
     write_held_lots(alloc, land, section, lots, text)?;
-    write_parts(land, section, lots, text)
+    write_parts(&places_off_lots(land, section, lots), text)
 }
 
 /// Appends the list of a section that the land contains wholly, after a comma.
