@@ -70,6 +70,10 @@ in_last n less = elim (cases_lt n 24) [
 all_in : (n : ℕ) → n < 32 → (nat_le 0 n && nat_lt n 32) ≡ true
 all_in n less = grind (arith, nat_tests, less)
 
+with_all : (b : Bool) → (b && true) ≡ b
+with_all true = refl
+with_all false = refl
+
 -- without the places of both, those in no standard lot are left
 pub off_standard : (s : ℕ) (held : ℕ → ℕ → Bool) → IsSection s
     → ((c r : ℕ) → held c r ≡ true → IsPlace PLACE_DIGITS c r)
@@ -77,9 +81,6 @@ pub off_standard : (s : ℕ) (held : ℕ → ℕ → Bool) → IsSection s
     ≡ off_lots STANDARD_LOTS s held
 off_standard s held range within = fun_ext (λ c. fun_ext (λ r. by c r))
   where
-    turned : (n w : Bool) → ((true && not n) && not w) ≡ (true && (not n && not w))
-    turned n w = refl
-
     by : (c r : ℕ)
         → without_if (has_western s) (without_if (has_northern s) held northern) western c r
         ≡ off_lots STANDARD_LOTS s held c r
@@ -94,16 +95,9 @@ off_standard s held range within = fun_ext (λ c. fun_ext (λ r. by c r))
           let in_north : in_rectangle northern c r ≡ (r / 8 == 3) =
           rw (all_in c west) (in_last r north) in
           let in_west : in_rectangle western c r ≡ (c / 8 == 3) =
-          rw (all_in r north) (last_of c west) in
+          rw (all_in r north) (with_all (nat_le 24 c && nat_lt c 32) ∙ in_last c west) in
           rw (here, off, in_north, in_west) refl
     ]
-      where
-        last_of : (n : ℕ) → n < 32 → ((nat_le 24 n && nat_lt n 32) && true) ≡ (n / 8 == 3)
-        last_of n less = rw (in_last n less) (with_true (n / 8 == 3))
-
-        with_true : (b : Bool) → (b && true) ≡ b
-        with_true true = refl
-        with_true false = refl
 
 -- before the first block, each place of the set is left
 pub off_first : (set held : ℕ → ℕ → Bool) → held ≡ held_without held (below set 0)

@@ -1,12 +1,12 @@
 -- Sets of places in one section.
-use Rattle.std.proofs.Common.{◌≡◌, ◌≢◌, ◌==◌, ◌&&◌, ℕ, Bool, true, false, IsTrue, refl, sym, ◌∙◌, inl, inr, arith}
+use Rattle.std.proofs.Common.{◌≡◌, ◌==◌, ℕ, Bool, true, IsTrue, refl, inl, inr, arith}
 use Rattle.std.proofs.Math.Path.{fun_ext}
 use Rattle.std.proofs.lemmas.Bool.{cases_Bool, cases_eq, ne_eqb, eq-eqb}
 use Rattle.std.proofs.lemmas.Bool.Decides.{nat_tests}
 use Rattle.twp_grid.specs.Winding.{IsSection}
 use Rattle.twp_grid.specs.Spans.{Rectangle}
 use Rattle.twp_grid.specs.Lands.{union, block_places}
-use Rattle.twp_land.specs.Storage.{is_section, held_in_one, nothing_held, with_block}
+use Rattle.twp_land.specs.Storage.{is_section, held_in_one, with_block}
 
 -- a block is added to the places of the section that the set has
 pub added_in_one : (number section : ℕ) (held held' : ℕ → ℕ → Bool) (block : Rectangle)
@@ -24,20 +24,3 @@ added_in_one number section held held' block range same added =
             | inr not ↦ rw not refl
           ])
     ]))))
-
--- the part in the section that the set has, and in each other section
-pub part_in_one : (number section : ℕ) (held : ℕ → ℕ → Bool) → IsSection section → number ≡ section
-    → held ≡ held_in_one number held section
-part_in_one number section held range same =
-    let inside : is_section section ≡ true = grind (arith, nat_tests, range) in
-    fun_ext (λ column. fun_ext (λ row. rw (inside, eq-eqb number section same) refl))
-
-pub part_in_other : (number section : ℕ) (held none : ℕ → ℕ → Bool) → none ≡ nothing_held → number ≢ section
-    → none ≡ held_in_one number held section
-part_in_other number section held none is apart =
-    is ∙ fun_ext (λ column. fun_ext (λ row.
-    rw (ne_eqb number section apart) (sym (nowhere (is_section section)))))
-  where
-    nowhere : (b : Bool) → (b && false) ≡ false
-    nowhere true = refl
-    nowhere false = refl

@@ -36,6 +36,7 @@ pub(crate) fn places_off_lots<L: PlaceSet, P: Lotting>(
 
 /// Appends the written parts of places in a section, each after a comma. These are not all of its
 /// places.
+#[inline(never)]
 pub(crate) fn write_parts<P: Plot>(places: &P, text: &mut Vec<u8>) -> Result<(), AllocError>
     ensures { ¬ IsFull PLACE_DIGITS (P.held places.now) (square [])
         → OnOk result (AreWritten (AreWrittenParts PLACE_DIGITS (P.held places.now))
@@ -78,7 +79,7 @@ fn write_quarter_of_section<P: Plot>(
         return Ok(());
     }
     let quarter = quarter_of_section(corner);
-    if !places.meets(section, quarter) {
+    if !places.meets(quarter) {
         return Ok(());
     }
     write_coarse_square(places, quarter, &path.quarter(corner), text)
