@@ -29,4 +29,5 @@ pub mod SpelledLines
 pub mod SpelledLand
 pub mod ReadBack
 pub mod SpellingFacts
+pub mod LotTexts
 pub mod HeldFacts

@@ -162,13 +162,15 @@ fn write_held_lots<L: PlaceSet, P: Lotting>(
     let Some(first) = next_held(land, section, lots, 0) else {
         return Ok(());
     };
-    let mut next = next_held(land, section, lots, first);
+    let mut last = first;
+    let mut next = next_held(land, section, lots, last);
     text.extend_from_slice(lots_lead(next))?;
-    write_number(first, text)?;
+    write_number(last, text)?;
     while let Some(number) = next {
         text.extend_from_slice(b", ")?;
         write_number(number, text)?;
-        next = next_held(land, section, lots, number);
+        last = number;
+        next = next_held(land, section, lots, last);
     }
     Ok(())
 }
