@@ -77,7 +77,7 @@ numbers_more (lot ∷ lots) number some =
     ∙ ap (λ texts. with_commas (decimal lot ∷ texts)) (sym (map-append decimal lots (number ∷ [])))
 
 -- the text before the numbers of this many lots
-lead_of : ℕ → List ℕ
+pub lead_of : ℕ → List ℕ
 lead_of zero = codes ", lots "
 lead_of (suc zero) = codes ", lot "
 lead_of (suc (suc n)) = codes ", lots "

@@ -17,8 +17,8 @@ loop-number-init g c =
           (held_numbered plan (g.met.P.Lotting.lots c.args.lots.now) c.args.section held n it).0));
     }
 
-pub loop-number-preserved-in_ok-push : goal.loop-number-preserved-in_ok-push
-loop-number-preserved-in_ok-push g c =
+pub loop-number-preserved : goal.loop-number-preserved-in_ok-push
+loop-number-preserved g c =
     let plan = lotting (g.P.Lotting.layout c.args.lots.now) in
     let held = g.L.PlaceSet.places c.args.land.now c.args.section in
     record {

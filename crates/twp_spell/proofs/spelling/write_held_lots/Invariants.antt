@@ -4,8 +4,8 @@ use Rattle.twp_spell.proofs.LotTexts.{AreLotsBegun, ComesNext}
 use Rattle.twp_spell.proofs.spelling.write_held_lots.Given as goal
 
 -- the lots so far that are in the land, and the next of them
-abbrev pub invariant-loop-number : goal.invariant-loop-number
-invariant-loop-number g l = record {
+abbrev pub invariant-loop-next : goal.invariant-loop-next
+invariant-loop-next g l = record {
   most : l.last ≤ LOT_NUMBER_MOST;
   begun : AreLotsBegun (lotting (g.P.Lotting.layout l.lots)) l.section
       (g.L.PlaceSet.places l.land l.section) l.last l.next l.fn.text.items l.text.items;
@@ -13,5 +13,5 @@ invariant-loop-number g l = record {
       (g.L.PlaceSet.places l.land l.section) l.last l.next;
 }
 
-abbrev pub decreases-loop-number : goal.decreases-loop-number
-decreases-loop-number g l = LOT_NUMBER_MOST - l.last
+abbrev pub decreases-loop-next : goal.decreases-loop-next
+decreases-loop-next g l = LOT_NUMBER_MOST - l.last
