@@ -19,6 +19,7 @@ pub mod GatheringFacts
 pub mod PartLaws
 pub mod CanonicalFacts
 pub mod Listings
+pub mod NumberLists
 pub mod Lexemes
 pub mod SpelledTokens
 pub mod SpelledWords

@@ -22,7 +22,7 @@ use Rattle.twp_spell.specs.CanonicalText.IsSectionList.{all, by_parts}
 use Rattle.twp_spell.specs.steps.Spelling.{parts_text, AreWritten}
 use Rattle.twp_spell.specs.steps.SpellingSteps.{entries_text, HasLotsText, HasSection, lines_begun, AreBegun}
 use Rattle.twp_grammar.proofs.Membership.{contains_among}
-use Rattle.twp_spell.proofs.Listings.{listed_as, listed_both, listed_none, listed_one}
+use Rattle.twp_spell.proofs.NumberLists.{Below, below_none, below_skip, below_more, below_all}
 use Rattle.twp_spell.proofs.PartLaws.{hold_all}
 
 -- a fact that holds for every value, if a result is Ok

@@ -2,7 +2,8 @@
 use Rattle.std.proofs.Common.{◌+◌, arith}
 use Rattle.twp_grid.specs.Lands.{IsLotHeld, lotting}
 use Rattle.twp_spell.proofs.HeldFacts.{held_numbered}
-use Rattle.twp_spell.proofs.LotTexts.{below_none, below_all, held_more}
+use Rattle.twp_spell.proofs.LotTexts.{held_more}
+use Rattle.twp_spell.proofs.NumberLists.{below_none, below_all}
 use Rattle.twp_spell.proofs.spelling.held_lots.Goals as goal
 
 pub loop-number-init : goal.loop-number-init
@@ -17,7 +18,7 @@ loop-number-init g c =
           (held_numbered plan (g.met.P.Lotting.lots c.args.lots.now) c.args.section held n it).0));
     }
 
-pub loop-number-preserved : goal.loop-number-preserved-in_ok-push
+pub loop-number-preserved : goal.loop-number-preserved
 loop-number-preserved g c =
     let plan = lotting (g.P.Lotting.layout c.args.lots.now) in
     let held = g.L.PlaceSet.places c.args.land.now c.args.section in
