@@ -1,13 +1,13 @@
 -- The land in the blocks of a whole section and of a lot.
-use Rattle.std.proofs.Common.{◌≡◌, ℕ, ◌≤◌, Bool, Some}
-use Rattle.std.proofs.Common.{sym, ap, ◌∙◌, true}
+use Rattle.std.proofs.Common.{◌≡◌, ℕ, ◌≤◌, Bool}
+use Rattle.std.proofs.Common.{sym, ap, ◌∙◌}
 use Rattle.twp_grid.specs.Lands.{Lotting, AreLots, HasLot, LOT_NUMBER_MOST}
 use Rattle.twp_grid.specs.Winding.{IsSection}
-use Rattle.twp_grid.specs.Lots.{position_of_lot, number_of_lots}
+use Rattle.twp_grid.specs.Lots.{number_of_lots}
 use Rattle.twp_grid.specs.Places.{PLACE_DIGITS, position_along}
 use Rattle.twp_grid.specs.Spans.{Rectangle, in_rectangle, whole_block}
-use Rattle.twp_grid.specs.Lands.{Meets, HoldsAll}
-use Rattle.twp_land.proofs.LotFacts.{fills, block_of}
+use Rattle.twp_grid.specs.Lands.{Meets}
+use Rattle.twp_land.proofs.LotFacts.{fills}
 use Rattle.twp_spell.specs.CanonicalText.{HoldsSome, IsLotHeld}
 use Rattle.twp_grid.proofs.PlaceTests.{place_of_test, test_of_place, whole_is_place}
 use Rattle.twp_grid.specs.Lands.{STANDARD_LOTS}

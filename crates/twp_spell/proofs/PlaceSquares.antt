@@ -1,6 +1,6 @@
 -- Squares of four places: which of their quarters are full.
 use Rattle.std.proofs.Common.{◌≡◌, ◌↔◌, ℕ, zero, suc, ◌+◌, ◌-◌, ◌/◌, ◌^◌, nat_le, nat_lt, Bool, true, List}
-use Rattle.std.proofs.Common.{◌∷◌, length, IsTrue, refl, sym, ap, ◌∙◌, arith, ◌≤◌, ◌<◌}
+use Rattle.std.proofs.Common.{◌∷◌, length, IsTrue, refl, sym, ap, ◌∙◌, arith}
 use Rattle.std.proofs.Math.Nat.{pow-succ'}
 use Rattle.std.proofs.lemmas.Bool.{and_parts}
 use Rattle.std.proofs.lemmas.Bool.Decides.{nat_tests}

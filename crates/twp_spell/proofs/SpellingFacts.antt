@@ -1,15 +1,15 @@
 -- Texts of lots, of sections, and of land, which grow piece by piece.
-use Rattle.std.proofs.Common.{◌≡◌, ℕ, zero, suc, ◌+◌, ◌<◌, ◌≤◌, ◌⊎◌, Bool, true, false, List, [], ◌∷◌, ◌++◌}
-use Rattle.std.proofs.Common.{map, length, Option, Some, None, Result, Ok, Err, OnOk, refl, sym, ap, subst}
-use Rattle.std.proofs.Common.{◌∙◌, inl, inr, arith, codes, decimal, is_ok, if◌then◌else◌}
+use Rattle.std.proofs.Common.{◌≡◌, ℕ, ◌+◌, ◌<◌, Bool, true, false, List, [], ◌∷◌, ◌++◌}
+use Rattle.std.proofs.Common.{map, Option, Some, None, Result, Ok, Err, OnOk, refl, sym, ap, subst}
+use Rattle.std.proofs.Common.{◌∙◌, arith, codes, decimal, is_ok, if◌then◌else◌}
 use Rattle.std.specs.List.{AllZip, Contains, join_by}
-use Rattle.std.proofs.lemmas.Bool.{cases_lt, false≢true}
+use Rattle.std.proofs.lemmas.Bool.{false≢true}
 use Rattle.std.proofs.lemmas.Grind.{flat_map-append}
 use Rattle.std.proofs.lemmas.List.{append-nil, append_assoc, flat_map_more}
 use Rattle.std.proofs.lemmas.List.Folds.{flat_map-map}
 use Rattle.twp_grid.specs.Townships.{Designation}
 use Rattle.twp_grid.specs.Winding.{IsSection}
-use Rattle.twp_grid.specs.Lands.{lot_of_place, LieWithin}
+use Rattle.twp_grid.specs.Lands.{LieWithin}
 use Rattle.twp_grid.specs.Listing.{AreListed}
 use Rattle.twp_spell.specs.WrittenParts.{Part, AreWrittenParts}
 use Rattle.twp_grid.specs.Lands.{off_lots}
@@ -22,7 +22,7 @@ use Rattle.twp_spell.specs.CanonicalText.IsSectionList.{all, by_parts}
 use Rattle.twp_spell.specs.steps.Spelling.{parts_text, AreWritten}
 use Rattle.twp_spell.specs.steps.SpellingSteps.{entries_text, HasLotsText, HasSection, lines_begun, AreBegun}
 use Rattle.twp_grammar.proofs.Membership.{contains_among}
-use Rattle.twp_spell.proofs.NumberLists.{Below, below_none, below_skip, below_more, below_all}
+use Rattle.twp_spell.proofs.NumberLists.{below_none, below_skip, below_more, below_all}
 use Rattle.twp_spell.proofs.PartLaws.{hold_all}
 
 -- a fact that holds for every value, if a result is Ok

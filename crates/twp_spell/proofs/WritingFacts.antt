@@ -18,7 +18,6 @@ use Rattle.twp_spell.specs.CanonicalText.{step_text, part_text}
 use Rattle.twp_spell.specs.steps.Spelling.{quarter_on, AreOfSquare, AreOfQuarter, IsChoice, IsOffChosen}
 use Rattle.twp_spell.specs.steps.Spelling.{quarters_text, parts_text, AreWritten, IsBlockOf}
 use Rattle.twp_grid.specs.Spans.{Rectangle, whole_block}
-use Rattle.twp_grid.specs.Lands.{lot_of_place}
 use Rattle.twp_grid.specs.Lands.{Lotting}
 use Rattle.twp_spell.proofs.SquareFacts.{square_within}
 use Rattle.twp_spell.proofs.SquarePlaces.{same_quarter}

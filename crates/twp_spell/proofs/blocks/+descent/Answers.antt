@@ -1,5 +1,5 @@
 -- The blocks of the parts that begin in each quarter of a square, one quarter after another.
-use Rattle.std.proofs.Common.{◌<◌, length, inl, inr, sym, ◌∙◌, ◌∷◌, arith}
+use Rattle.std.proofs.Common.{inl, inr, sym, ◌∙◌, ◌∷◌}
 use Rattle.std.proofs.lemmas.Bool.{false≢true}
 use Rattle.twp_grid.specs.Places.{PLACE_DIGITS}
 use Rattle.twp_spell.specs.WrittenParts.Part.{square}

@@ -1,12 +1,8 @@
 -- The places of a fine square, four by four.
-use Rattle.std.proofs.Common.{◌≡◌, ◌+◌, ◌%◌, sym, ◌∙◌, arith}
 use Rattle.twp_grid.specs.Places.{PLACE_DIGITS}
-use Rattle.twp_spell.specs.steps.Spelling.{FINE_SIDE, AreOfSquare}
-use Rattle.twp_spell.proofs.DescentLists.{of_empty}
-use Rattle.twp_spell.proofs.SquareFacts.{square_fits}
+use Rattle.twp_spell.specs.steps.Spelling.{AreOfSquare}
 use Rattle.twp_spell.proofs.PlaceSquares.{fine_places, fine_full, fine_level}
-use Rattle.std.proofs.lemmas.Bool.{false≢true}
-use Rattle.twp_spell.proofs.WritingFacts.{written_none, buffer_appended}
+use Rattle.twp_spell.proofs.WritingFacts.{buffer_appended}
 use Rattle.twp_spell.proofs.written_parts.write_fine_square.Goals as goal
 
 pub returns : goal.returns
