@@ -210,30 +210,6 @@ place_in_block block c r across upward inside =
     let north : block.rows.start + block.rows.len ≤ 32 = upward.within in
     (grind (arith, nat_tests, inside, west), grind (arith, nat_tests, inside, north))
 
--- a place with land, and with another mark than land in no lot
-pub some_lot_unless : (positions divided : List ℕ) (s c r : ℕ) → IsPlace PLACE_DIGITS c r
-    → ¬ (marked positions divided s 0 0 c r ≡ true)
-    → ¬ ((layout_of_bytes positions divided).has_land s c r ≡ false)
-    → IsSome ((layout_of_bytes positions divided).lot_of s c r)
-some_lot_unless positions divided s c r place other land =
-    let mark = mark_of positions divided s (place_number c r) in
-    let is : mark_of positions divided s (place_number c r) ≡ mark = refl in
-    elim (cases_lt mark 1) [
-      | inl none ↦
-          absurd (other (is_marked positions divided s 0 0 c r place (omega arith) (omega (arith, none))))
-      | inr some ↦ elim (cases_lt mark NO_LAND) [
-        | inl few ↦
-            some_lot_of_marked positions divided s c r
-            (is_marked positions divided s 1 99 c r place (omega (arith, some)) (omega (arith, few)))
-        | inr most ↦
-            absurd
-            (land
-            (no_land_of_marked positions divided s c r
-            (is_marked positions divided s 100 100 c r place (omega (arith, most))
-            (mark_most positions divided s (place_number c r)))))
-      ]
-    ]
-
 -- there is a block exactly if there is a place
 abbrev pub HasPlace : (ℕ → ℕ → Bool) → Type 0
 HasPlace set = (c : ℕ) × (r : ℕ) × (set c r ≡ true)

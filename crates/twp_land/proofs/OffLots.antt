@@ -12,7 +12,7 @@ use Rattle.twp_grid.specs.Spans.{Rectangle, in_rectangle, rectangle, span_from}
 use Rattle.twp_grid.specs.Lands.{STANDARD_LOTS, lot_of_place, lotting, off_lots}
 use Rattle.twp_grid.proofs.LotFacts.{each, each_of_three, either, a_section}
 use Rattle.twp_land.specs.LotMaps.{layout_of_bytes, place_number}
-use Rattle.twp_land.specs.Storage.{held_without, without_block, without_if}
+use Rattle.twp_land.specs.Storage.{held_without, without_block}
 use Rattle.twp_land.specs.steps.Marked.{marked, below, NoneLeft, IsNextBlock}
 use Rattle.twp_land.proofs.MarkedLoops.{below_next}
 use Rattle.twp_land.proofs.MarkedLots.{marked_of_some_lot, some_lot_of_marked}
@@ -30,6 +30,10 @@ northern = rectangle (span_from 0 32) (span_from 24 8)
 
 abbrev pub western : Rectangle
 western = rectangle (span_from 24 8) (span_from 0 32)
+
+-- a set without the places of a block, if a test holds
+abbrev pub without_if : Bool → (ℕ → ℕ → Bool) → Rectangle → ℕ → ℕ → Bool
+without_if is held block = held_without held (λ column row. is && in_rectangle block column row)
 
 -- a position with no lot
 abbrev is_off : ℕ → ℕ → ℕ → Bool

@@ -22,10 +22,6 @@ with_block held block column row = held column row || in_rectangle block column 
 abbrev pub without_block : (ℕ → ℕ → Bool) → Rectangle → ℕ → ℕ → Bool
 without_block held block column row = held column row && not (in_rectangle block column row)
 
--- the same if a test holds, and otherwise the places of the set
-abbrev pub without_if : Bool → (ℕ → ℕ → Bool) → Rectangle → ℕ → ℕ → Bool
-without_if is held block column row = held column row && not (is && in_rectangle block column row)
-
 -- the set in one section that contains each of its places, or none
 abbrev pub all_if : Bool → ℕ → ℕ → Bool
 all_if is column row = is && in_rectangle (whole_block PLACE_DIGITS) column row

@@ -1,8 +1,8 @@
-ghost use Rattle.std.specs.Prelude.{ℕ, ◌≡◌, ◌↔◌, IsTrue, ◌+◌, ◌≤◌, is_some};
+ghost use Rattle.std.specs.Prelude.{ℕ, ◌≡◌, ◌↔◌, IsTrue, ◌+◌, ◌≤◌, ◌&&◌, is_some};
 ghost use Rattle.twp_grid.specs.Places.{PLACE_DIGITS, places_across};
 ghost use Rattle.twp_grid.specs.Lands.{IsWholeOrNot, HasWholeLots, Meets, HoldsLotPlace, off_lots};
 ghost use Rattle.twp_grid.specs.Lands.{STANDARD_LOTS};
-ghost use Rattle.twp_land.specs.Storage.{land_of_rows, held_by_lane, without_if};
+ghost use Rattle.twp_land.specs.Storage.{land_of_rows, held_by_lane, held_without};
 ghost use Rattle.twp_land.specs.steps.Relating.{HoldsWholeLots};
 ghost use Rattle.twp_grid.specs.Spans.{span_from, in_rectangle, rectangle};
 ghost use Rattle.twp_land.specs.steps.Crossing.{Cross};
@@ -122,7 +122,8 @@ pub(crate) fn remove_lots<P: Plot>(set: &mut P, section: Section)
 /// the block's positions.
 #[inline(always)]
 fn remove_if_lots<P: Plot>(set: &mut P, block: Block, lot: Option<u8>)
-    ensures { P.held set.new ≡ without_if (is_some lot) (P.held set.old) block }
+    ensures { P.held set.new ≡ held_without (P.held set.old)
+        (λ column row. is_some lot && in_rectangle block column row) }
 {
     if lot.is_some() {
         set.remove(block);

@@ -30,5 +30,6 @@ returns g c = λ quarters of_square path_is short.
     (AreOfSquare PLACE_DIGITS (g.P.Plot.held c.args.places.now) quarters)
     c.args.text.now.items c.new-buffer.result c.push_fine_square.new.buffer c.append_to.new.text.items
     c.new-buffer.ensures
-    (c.push_fine_square.ensures (g.P.Plot.held c.args.places.now) quarters level path_is short full places.0 places.1.0 places.1.1.0 places.1.1.1)
+    (c.push_fine_square.ensures (g.P.Plot.held c.args.places.now) quarters level path_is short full places.0
+    places.1.0 places.1.1.0 places.1.1.1)
     c.append_to.ensures
