@@ -33,7 +33,7 @@ FIELD = re.compile(r"^  (?:pub )?((?:[^\s(:]+ )+):", re.M)
 # A clause, and its terms; the name of a type in code.
 CLAUSE = re.compile(r"\b(?:requires|ensures|ghost \w+:)(?: \w+)? (\{(?:[^{}]|\{[^{}]*\})*\}(?:\s*= \{[^{}]*\})?)")
 TYPE = re.compile(r"(?<![\w.'])(?:\w+::)*[A-Z]\w+")
-OF_RUST = {"Option", "Some", "None", "Result", "Ok", "Err", "Vec", "String", "Box", "Drop", "Self"}
+OF_RUST = {"Option", "Some", "None", "Result", "Ok", "Err", "Vec", "String", "Box", "Copy", "Drop", "Self"}
 # The crates of the kit whose definitions are listed, and not only named.
 READ_OF_KIT = {"csv"}
 

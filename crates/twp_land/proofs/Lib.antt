@@ -14,6 +14,7 @@ pub mod LotFacts
 pub mod WholeLots
 pub mod WholeFacts
 pub mod LottingFacts
+pub mod OffLots
 pub mod RemovalFacts
 pub mod RowFacts
 pub mod LowLaneFacts

@@ -5,7 +5,7 @@ use Rattle.std.proofs.Common.{Option, None, refl, sym, ap, inl, inr, nat_le, nat
 use Rattle.std.proofs.lemmas.Bool.Decides.{nat_tests}
 use Rattle.twp_grid.specs.Winding.{IsSection}
 use Rattle.twp_grid.specs.Places.{PLACE_DIGITS, places_across, places_to_position, is_place, position_along}
-use Rattle.twp_grid.specs.Lands.{lot_of_place, HoldsLotPlace, IsOfLots}
+use Rattle.twp_grid.specs.Lands.{lot_of_place, HoldsLotPlace}
 use Rattle.twp_land.specs.steps.Crossing.{Cross}
 use Rattle.twp_land.proofs.LotFacts.{fills, block_of, in_lot, lot_inside}
 use Rattle.std.proofs.lemmas.Bool.{cases_lt, and_parts, eqb-true, eq-eqb}
@@ -202,18 +202,3 @@ small_holds section block columns rows wide high = (
       (along_position block.rows held.row rows high both.1) in
       ap is_some (sym there) ∙ held.of_lot,
 )
-
--- and is made up of lots if it contains a place of one
-pub small_of_lots : (section : ℕ) (block : Rectangle) → IsDyadic PLACE_DIGITS block.columns
-    → IsDyadic PLACE_DIGITS block.rows → block.columns.len ≤ POSITION → block.rows.len ≤ POSITION
-    → HoldsLotPlace STANDARD_LOTS section block → IsOfLots STANDARD_LOTS section block
-small_of_lots section block columns rows wide high held column row inside =
-    let both = and_parts (in_span block.columns column) (in_span block.rows row) inside in
-    let there = and_parts (in_span block.columns held.column) (in_span block.rows held.row) held.inside in
-    let across : position_along PLACE_DIGITS held.column ≡ position_along PLACE_DIGITS column =
-    along_position block.columns held.column columns wide there.0
-    ∙ sym (along_position block.columns column columns wide both.0) in
-    let upward : position_along PLACE_DIGITS held.row ≡ position_along PLACE_DIGITS row =
-    along_position block.rows held.row rows high there.1
-    ∙ sym (along_position block.rows row rows high both.1) in
-    rw (sym across, sym upward) held.of_lot

@@ -6,7 +6,7 @@ use Rattle.std.specs.Option.{option_map_or}
 use Rattle.std.specs.Prelude.{MatchOption, IsTrue, is_some}
 use Rattle.twp_grid.specs.Spans.{Rectangle, IsDyadic, in_rectangle}
 use Rattle.std.proofs.Math.Path.{fun_ext}
-use Rattle.std.proofs.lemmas.Bool.{cases_Bool, cases_lt, eqb-true, false≢true}
+use Rattle.std.proofs.lemmas.Bool.{cases_Bool, eqb-true, false≢true}
 use Rattle.std.proofs.lemmas.Bool.Decides.{nat_tests}
 use Rattle.twp_grid.specs.Places.{PLACE_DIGITS, IsPlace, is_place}
 use Rattle.twp_grid.specs.Lands.{HasLot, lotting, lot_places, section_places}
@@ -209,30 +209,6 @@ place_in_block block c r across upward inside =
     let west : block.columns.start + block.columns.len ≤ 32 = across.within in
     let north : block.rows.start + block.rows.len ≤ 32 = upward.within in
     (grind (arith, nat_tests, inside, west), grind (arith, nat_tests, inside, north))
-
--- a place with land, and with another mark than land in no lot
-pub some_lot_unless : (positions divided : List ℕ) (s c r : ℕ) → IsPlace PLACE_DIGITS c r
-    → ¬ (marked positions divided s 0 0 c r ≡ true)
-    → ¬ ((layout_of_bytes positions divided).has_land s c r ≡ false)
-    → IsSome ((layout_of_bytes positions divided).lot_of s c r)
-some_lot_unless positions divided s c r place other land =
-    let mark = mark_of positions divided s (place_number c r) in
-    let is : mark_of positions divided s (place_number c r) ≡ mark = refl in
-    elim (cases_lt mark 1) [
-      | inl none ↦
-          absurd (other (is_marked positions divided s 0 0 c r place (omega arith) (omega (arith, none))))
-      | inr some ↦ elim (cases_lt mark NO_LAND) [
-        | inl few ↦
-            some_lot_of_marked positions divided s c r
-            (is_marked positions divided s 1 99 c r place (omega (arith, some)) (omega (arith, few)))
-        | inr most ↦
-            absurd
-            (land
-            (no_land_of_marked positions divided s c r
-            (is_marked positions divided s 100 100 c r place (omega (arith, most))
-            (mark_most positions divided s (place_number c r)))))
-      ]
-    ]
 
 -- there is a block exactly if there is a place
 abbrev pub HasPlace : (ℕ → ℕ → Bool) → Type 0

@@ -11,8 +11,9 @@ mod searching;
 use crate::growing_set::GrowingSet;
 use crate::lotting::Lotting;
 use crate::place_set::PlaceSet;
+use crate::plot::Plot;
 use bytes::has_byte;
-use twp_grid::{Block, PLACES_TO_POSITION, SECTIONS, Section};
+use twp_grid::{Block, SECTIONS, Section};
 
 /// The number of positions in a section.
 const POSITIONS: usize = 16;
@@ -208,12 +209,12 @@ impl Lotting for LotMap {
         self.meets(section, block, 1, LOT_MOST)
     }
 
-    // A larger block is looked at by its quarters.
-    fn is_of_lots(&self, section: Section, block: Block) -> bool {
-        if block.width() > PLACES_TO_POSITION || block.height() > PLACES_TO_POSITION {
-            return false;
+    fn remove_lots<Q: Plot>(&self, set: &mut Q, section: Section) {
+        let mut from = 0;
+        while let Some(found) = self.next(section, from, 1, LOT_MOST) {
+            set.remove(found.block);
+            from = found.end;
         }
-        !self.meets(section, block, 0, 0) && !self.lacks_land(section, block)
     }
 
     fn add_lot<S: GrowingSet>(&self, set: &mut S, section: Section, number: u8) -> bool {

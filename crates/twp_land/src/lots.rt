@@ -1,17 +1,20 @@
-ghost use Rattle.std.specs.Prelude.{ℕ, ◌↔◌, IsTrue, ◌+◌, ◌≤◌};
+ghost use Rattle.std.specs.Prelude.{ℕ, ◌≡◌, ◌↔◌, IsTrue, ◌+◌, ◌≤◌, ◌&&◌, is_some};
 ghost use Rattle.twp_grid.specs.Places.{PLACE_DIGITS, places_across};
-ghost use Rattle.twp_grid.specs.Lands.{IsWholeOrNot, HasWholeLots, Meets, HoldsLotPlace};
+ghost use Rattle.twp_grid.specs.Lands.{IsWholeOrNot, HasWholeLots, Meets, HoldsLotPlace, off_lots};
 ghost use Rattle.twp_grid.specs.Lands.{STANDARD_LOTS};
-ghost use Rattle.twp_land.specs.Storage.{land_of_rows, held_by_lane};
+ghost use Rattle.twp_land.specs.Storage.{land_of_rows, held_by_lane, held_without};
 ghost use Rattle.twp_land.specs.steps.Relating.{HoldsWholeLots};
-ghost use Rattle.twp_grid.specs.Spans.{span_from, in_rectangle};
+ghost use Rattle.twp_grid.specs.Spans.{span_from, in_rectangle, rectangle};
 ghost use Rattle.twp_land.specs.steps.Crossing.{Cross};
 
 use crate::land_rows::LandRows;
 use crate::lanes::LaneRows;
 use crate::plot::Plot;
 use crate::row::Lane;
-use twp_grid::{Block, PLACES_ACROSS, PLACES_TO_POSITION, Section, lot_at, lot_count};
+use twp_grid::{Block, PLACES_ACROSS, PLACES_TO_POSITION, Section, Side, lot_at, lot_count};
+
+/// The column of the positions along the west of a section, and the row of those along the north.
+const LAST: u8 = 3;
 
 /// How many sections have lots.
 const SECTIONS_WITH_LOTS: usize = 11;
@@ -103,6 +106,46 @@ fn shares_lot(section: Section, block: Block) -> bool
         }
     }
     false
+}
+
+/// Removes the places of a section's lots from a set of places in the section. The lots are the
+/// positions along the north of some sections, and those along the west of some.
+#[inline(always)]
+pub(crate) fn remove_lots<P: Plot>(set: &mut P, section: Section)
+    ensures { P.held set.new ≡ off_lots STANDARD_LOTS section (P.held set.old) }
+{
+    remove_if_lots(set, northern_positions(), lot_at(section, 0, LAST));
+    remove_if_lots(set, western_positions(), lot_at(section, LAST, 0));
+}
+
+/// Removes the places of a block from a set of places in one section, if there is a lot at one of
+/// the block's positions.
+#[inline(always)]
+fn remove_if_lots<P: Plot>(set: &mut P, block: Block, lot: Option<u8>)
+    ensures { P.held set.new ≡ held_without (P.held set.old)
+        (λ column row. is_some lot && in_rectangle block column row) }
+{
+    if lot.is_some() {
+        set.remove(block);
+    }
+}
+
+/// The positions along the north of a section.
+#[inline(always)]
+fn northern_positions() -> Block
+    ensures { result ≡ rectangle (span_from 0 32) (span_from 24 8) }
+{
+    let half = Block::whole().half(Side::N).unwrap();
+    half.half(Side::N).unwrap()
+}
+
+/// The positions along the west of a section.
+#[inline(always)]
+fn western_positions() -> Block
+    ensures { result ≡ rectangle (span_from 24 8) (span_from 0 32) }
+{
+    let half = Block::whole().half(Side::W).unwrap();
+    half.half(Side::W).unwrap()
 }
 
 /// Whether two blocks share a place.

@@ -1,16 +1,17 @@
 ghost use Rattle.std.specs.Prelude.{◌≡◌, ◌≤◌, ◌↔◌, ℕ, Option, false, IsTrue, MatchOption};
 ghost use Rattle.twp_grid.specs.Places.{PLACE_DIGITS};
 ghost use Rattle.twp_grid.specs.Lands.{Layout, STANDARD_LAYOUT, lotting, HasLot, HasLots, HoldsLotPlace};
-ghost use Rattle.twp_grid.specs.Lands.{IsLotHeld, HasLand, IsOfLots, LacksLand, HoldsEach, section_places};
+ghost use Rattle.twp_grid.specs.Lands.{IsLotHeld, HasLand, LacksLand, HoldsEach, off_lots, section_places};
 ghost use Rattle.twp_grid.specs.Lands.{AreLots, IsLastLot, IsNextLot, lot_places, union, SharePlace};
 ghost use Rattle.twp_grid.specs.Lands.{ContainsAll, count_held};
 ghost use Rattle.twp_grid.specs.Spans.{whole_block};
 ghost use Rattle.twp_land.specs.LotMaps.{land_off_lots};
 
 use crate::growing_set::GrowingSet;
-use crate::lots::holds_of_lot;
+use crate::lots::{holds_of_lot, remove_lots};
 use crate::place_set::PlaceSet;
-use twp_grid::{Block, PLACES_TO_POSITION, Section, lot_count};
+use crate::plot::Plot;
+use twp_grid::{Block, Section, lot_count};
 
 /// The lotting of a plat: which lots its sections have, where they lie, and where the plat has no
 /// land, as in a lake or in another survey.
@@ -57,9 +58,9 @@ pub trait Lotting {
     fn holds_of_lot(&self, section: Section, block: Block) -> bool
         ensures { IsTrue result ↔ HoldsLotPlace (lotting (layout self.now)) section block };
 
-    /// Whether a block of a section is known to be made up of lots. If it isn't, it still may be.
-    fn is_of_lots(&self, section: Section, block: Block) -> bool
-        ensures { IsTrue result → IsOfLots (lotting (layout self.now)) section block };
+    /// Removes the places of a section's lots from a set of places in the section.
+    fn remove_lots<Q: Plot>(&self, set: &mut Q, section: Section)
+        ensures { Q.held set.new ≡ off_lots (lotting (layout self.now)) section (Q.held set.old) };
 
     /// Adds the places of a section's lot to a set, unless the set contains one of them. Returns
     /// whether it contained none; if it did, its content has no meaning.
@@ -147,13 +148,9 @@ impl Lotting for StandardLots {
         holds_of_lot(section, block)
     }
 
-    // A block no larger than a position lies within one, which is a lot or contains none.
     #[inline(always)]
-    fn is_of_lots(&self, section: Section, block: Block) -> bool {
-        if block.width() > PLACES_TO_POSITION || block.height() > PLACES_TO_POSITION {
-            return false;
-        }
-        holds_of_lot(section, block)
+    fn remove_lots<Q: Plot>(&self, set: &mut Q, section: Section) {
+        remove_lots(set, section);
     }
 
     #[inline(always)]

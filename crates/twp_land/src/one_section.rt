@@ -38,6 +38,8 @@ impl<P: Plot> OneSection<P> {
 impl<P: Plot> PlaceSet for OneSection<P> {
     ghost places = { λ set. held_in_one set.number (P.held set.plot) };
 
+    type Part = P;
+
     ghost use Rattle.twp_land.specs.steps.Within.{one_within};
 
     ghost within = { λ set section column row held.
@@ -64,6 +66,14 @@ impl<P: Plot> PlaceSet for OneSection<P> {
     #[inline]
     fn is_untouched(&self, _section: Section) -> bool {
         false
+    }
+
+    #[inline]
+    fn in_section(&self, section: Section) -> P {
+        if section.number() != self.number {
+            return P::empty();
+        }
+        self.plot
     }
 
     #[inline]

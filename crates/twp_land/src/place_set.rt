@@ -5,6 +5,7 @@ ghost use Rattle.twp_grid.specs.Spans.{whole_block};
 ghost use Rattle.twp_grid.specs.Lands.{no_places, union, block_places, count_held, Meets, HoldsAll};
 ghost use Rattle.twp_grid.specs.Lands.{LieWithin};
 
+use crate::plot::Plot;
 use twp_grid::{Block, Section};
 
 /// A set of places in a township. A place's column is counted from the east and its row from the south of its
@@ -12,6 +13,9 @@ use twp_grid::{Block, Section};
 pub trait PlaceSet: Drop {
     /// Whether the set contains the place at a column and a row of a section.
     ghost places: { Self → ℕ → ℕ → ℕ → Bool };
+
+    /// A set of places in one section.
+    type Part: Plot;
 
     /// Whether the set contains a place.
     fn holds(&self, section: Section, column: u8, row: u8) -> bool
@@ -31,6 +35,10 @@ pub trait PlaceSet: Drop {
     /// isn't, the set may still be empty there.
     fn is_untouched(&self, section: Section) -> bool
         ensures { IsTrue result → ¬ Meets (places self.now section) (whole_block PLACE_DIGITS) };
+
+    /// The places of a section.
+    fn in_section(&self, section: Section) -> Self::Part
+        ensures { Self.Part.held result ≡ places self.now section };
 
     /// How many places of a section's block the set contains.
     fn count(&self, section: Section, block: Block) -> u32

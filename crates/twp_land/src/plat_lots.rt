@@ -6,6 +6,7 @@ use crate::growing_set::GrowingSet;
 use crate::lot_map::{DIVIDED_BYTES, LotMap, POSITION_BYTES};
 use crate::lotting::{Lotting, StandardLots};
 use crate::place_set::PlaceSet;
+use crate::plot::Plot;
 use twp_grid::{Block, Section};
 
 /// The lots of a plat: the standard ones of a regular township, or those of a map. Any value is a
@@ -104,11 +105,11 @@ impl Lotting for PlatLots {
     }
 
     #[inline(always)]
-    fn is_of_lots(&self, section: Section, block: Block) -> bool {
+    fn remove_lots<Q: Plot>(&self, set: &mut Q, section: Section) {
         if self.mapped == 0 {
-            return StandardLots.is_of_lots(section, block);
+            return StandardLots.remove_lots(set, section);
         }
-        self.map.is_of_lots(section, block)
+        self.map.remove_lots(set, section)
     }
 
     #[inline(always)]

@@ -52,6 +52,8 @@ impl<P: Plot> Sections<P> {
 impl<P: Plot> PlaceSet for Sections<P> {
     ghost places = { λ land. held_by_section P.held land.plots };
 
+    type Part = P;
+
     ghost use Rattle.twp_land.specs.steps.Within.{held_within};
 
     ghost within = { λ land section column row held.
@@ -71,6 +73,10 @@ impl<P: Plot> PlaceSet for Sections<P> {
 
     fn is_untouched(&self, section: Section) -> bool {
         self.plot(section).is_untouched()
+    }
+
+    fn in_section(&self, section: Section) -> P {
+        *self.plot(section)
     }
 
     fn count(&self, section: Section, block: Block) -> u32 {

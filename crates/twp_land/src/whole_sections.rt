@@ -71,6 +71,8 @@ fn all_places() -> LaneRows
 impl PlaceSet for WholeSections {
     ghost places = { λ set. held_by_section all_if set.held };
 
+    type Part = LaneRows;
+
     ghost use Rattle.twp_land.specs.steps.Within.{sections_within};
 
     ghost within = { λ set section column row held.
@@ -100,6 +102,14 @@ impl PlaceSet for WholeSections {
             return false;
         }
         true
+    }
+
+    #[inline]
+    fn in_section(&self, section: Section) -> LaneRows {
+        if !self.has(section) {
+            return LaneRows::empty();
+        }
+        all_places()
     }
 
     #[inline]

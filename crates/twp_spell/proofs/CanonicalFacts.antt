@@ -1,15 +1,12 @@
 -- Land has exactly one canonical text.
 use Rattle.std.proofs.Common.{◌≡◌, ◌==◌, ℕ, zero, suc, ◌<◌, ◌⊎◌, ◌&&◌, Bool, true, false, List, [], ◌∷◌, ◌++◌}
-use Rattle.std.proofs.Common.{Option, Some, None, map, refl, sym, ap, subst, ◌∙◌, inl, inr, arith, not, cond}
-use Rattle.std.proofs.Common.{option_map, find, codes, decimal}
+use Rattle.std.proofs.Common.{Option, Some, None, map, refl, sym, ap, subst, ◌∙◌, inl, inr, arith, not}
+use Rattle.std.proofs.Common.{codes, decimal}
 use Rattle.std.specs.List.{AllZip}
 use Rattle.std.proofs.lemmas.Bool.{cases_lt, and_parts, eqb-true, eq-eqb, false≢true}
 use Rattle.twp_grid.specs.Winding.{IsSection}
-use Rattle.twp_grid.specs.Lots.{Lot, lots, lot_at_position}
-use Rattle.twp_grid.specs.Places.{position_along}
 use Rattle.twp_grid.specs.Townships.{Designation}
 use Rattle.twp_grid.specs.Lands.{no_places}
-use Rattle.twp_grid.specs.Lands.{lot_of_place}
 use Rattle.twp_grid.specs.Listing.{AreListed}
 use Rattle.twp_grid.specs.Lands.{off_lots}
 use Rattle.twp_grid.specs.Lands.{Lotting, AreLots}

@@ -7,10 +7,8 @@ use Rattle.twp_grid.specs.Spans.{Rectangle}
 use Rattle.twp_grid.specs.declared.block.Side.{Side}
 use Rattle.twp_grid.specs.declared.block.Corner.{Corner}
 use Rattle.twp_grid.specs.declared.block.Corner.TheVariants.{NE, NW, SW, SE}
-use Rattle.twp_grid.specs.Lands.{off_lots}
 use Rattle.twp_spell.specs.PartBlocks.{block_of_part, AreWrittenBlocks}
 use Rattle.twp_spell.specs.WrittenParts.{Part, IsFull, IsChosenHalf, IsOnSide}
-use Rattle.twp_spell.specs.WrittenParts.{AreWrittenParts}
 use Rattle.twp_spell.specs.WrittenParts.Part.{square, half_of_square}
 use Rattle.twp_spell.specs.steps.Gathering.{AreGathered}
 use Rattle.twp_spell.specs.steps.Spelling.{quarter_on, AreOfSquare, AreOfQuarter, IsOffChosen, IsBlockOf}

@@ -1,13 +1,13 @@
 -- The land in the blocks of a whole section and of a lot.
-use Rattle.std.proofs.Common.{◌≡◌, ℕ, ◌≤◌, Bool, Some}
-use Rattle.std.proofs.Common.{sym, ap, ◌∙◌, true}
-use Rattle.twp_grid.specs.Lands.{Lotting, HasLot}
+use Rattle.std.proofs.Common.{◌≡◌, ℕ, ◌≤◌, Bool}
+use Rattle.std.proofs.Common.{sym, ap, ◌∙◌}
+use Rattle.twp_grid.specs.Lands.{Lotting, AreLots, HasLot, LOT_NUMBER_MOST}
 use Rattle.twp_grid.specs.Winding.{IsSection}
-use Rattle.twp_grid.specs.Lots.{position_of_lot, number_of_lots}
+use Rattle.twp_grid.specs.Lots.{number_of_lots}
 use Rattle.twp_grid.specs.Places.{PLACE_DIGITS, position_along}
 use Rattle.twp_grid.specs.Spans.{Rectangle, in_rectangle, whole_block}
-use Rattle.twp_grid.specs.Lands.{Meets, HoldsAll}
-use Rattle.twp_land.proofs.LotFacts.{fills, block_of}
+use Rattle.twp_grid.specs.Lands.{Meets}
+use Rattle.twp_land.proofs.LotFacts.{fills}
 use Rattle.twp_spell.specs.CanonicalText.{HoldsSome, IsLotHeld}
 use Rattle.twp_grid.proofs.PlaceTests.{place_of_test, test_of_place, whole_is_place}
 use Rattle.twp_grid.specs.Lands.{STANDARD_LOTS}
@@ -46,6 +46,10 @@ pub lot_of_held : (plan : Lotting) (section : ℕ) (held : ℕ → ℕ → Bool)
     → IsLotHeld plan section held lot
     → HasLot plan section lot
 lot_of_held plan section held lot is = (is.column, is.row, is.of_lot)
+
+pub held_numbered : (plan : Lotting) → AreLots plan → (section : ℕ) (held : ℕ → ℕ → Bool) (lot : ℕ)
+    → IsLotHeld plan section held lot → (1 ≤ lot) × (lot ≤ LOT_NUMBER_MOST)
+held_numbered plan fine section held lot is = fine.numbered section lot is.column is.row is.of_lot
 
 -- the numbers of lots in the land
 pub lot_is_least : (section lot : ℕ) (held : ℕ → ℕ → Bool) → IsSection section

@@ -19,6 +19,7 @@ pub mod GatheringFacts
 pub mod PartLaws
 pub mod CanonicalFacts
 pub mod Listings
+pub mod NumberLists
 pub mod Lexemes
 pub mod SpelledTokens
 pub mod SpelledWords
@@ -29,4 +30,5 @@ pub mod SpelledLines
 pub mod SpelledLand
 pub mod ReadBack
 pub mod SpellingFacts
+pub mod LotTexts
 pub mod HeldFacts

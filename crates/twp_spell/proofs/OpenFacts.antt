@@ -1,4 +1,4 @@
--- A quarter of a square has no land if a half that contains it has none.
+-- A quarter of a square has no places of a set if a half that contains it has none.
 use Rattle.std.proofs.Common.{◌≡◌, ◌↔◌, ◌&&◌, ℕ, ◌<◌, ◌⊎◌, Bool, true, false, List, [], ◌∷◌, length, IsTrue}
 use Rattle.std.proofs.Common.{refl, sym, ap, subst, ◌∙◌, inl, inr, arith}
 use Rattle.std.proofs.lemmas.Bool.{false≢true}
@@ -8,8 +8,7 @@ use Rattle.twp_grid.specs.declared.block.Side.{Side}
 use Rattle.twp_grid.specs.declared.block.Side.TheVariants.{N, S, E, W}
 use Rattle.twp_grid.specs.declared.block.Corner.{Corner}
 use Rattle.twp_grid.specs.declared.block.Corner.TheVariants.{NE, NW, SW, SE}
-use Rattle.twp_grid.specs.Lands.{Meets, off_lots}
-use Rattle.twp_grid.specs.Lands.{Lotting}
+use Rattle.twp_grid.specs.Lands.{Meets}
 use Rattle.twp_spell.specs.WrittenParts.{IsInPart, IsFull, IsOnSide}
 use Rattle.twp_spell.specs.WrittenParts.Part.{square, half_of_square}
 use Rattle.twp_spell.specs.steps.Spelling.{IsBlockOf, AreOfSquare}
@@ -31,15 +30,14 @@ half_block g side quarters block fits of_square = record {
   block_is = ap (λ b. half_of b side) of_square.block_is;
 }
 
--- a half that the land does not meet has no land
-pub half_closed : (plan : Lotting) (section : ℕ) (held : ℕ → ℕ → Bool) (side : Side) (quarters : List Corner)
-    (block half : Rectangle) (meets : Bool) → length quarters < plan.digits
-    → IsBlockOf plan.digits (square quarters) block
+-- a half that the set does not meet has none of its places
+pub half_closed : (g : ℕ) (held : ℕ → ℕ → Bool) (side : Side) (quarters : List Corner)
+    (block half : Rectangle) (meets : Bool) → length quarters < g → IsBlockOf g (square quarters) block
     → half ≡ half_of block side → IsTrue meets ↔ Meets held half → meets ≡ false
-    → IsHalfEmpty plan.digits (off_lots plan section held) quarters side
-half_closed plan section held side quarters block half meets fits of_square is judged none =
-    empty_block plan section held (half_of_square side quarters) half
-    (rw is (half_block plan.digits side quarters block fits of_square))
+    → IsHalfEmpty g held quarters side
+half_closed g held side quarters block half meets fits of_square is judged none =
+    empty_block g held (half_of_square side quarters) half
+    (rw is (half_block g side quarters block fits of_square))
     (λ some. false≢true (sym none ∙ judged.1 some))
 
 -- so has each quarter in it
@@ -81,7 +79,7 @@ quarter_closed g held SE quarters halves fits are is = elim (either_closed halve
   | inr east ↦ in_closed g held E SE quarters fits tt (are E east)
 ]
 
--- a quarter without land is not full, and has no written parts
+-- a quarter without places is not full, and has no written parts
 pub closed_not_full : (g : ℕ) (held : ℕ → ℕ → Bool) (corner : Corner) (quarters : List Corner)
     (halves : OpenHalves) → length quarters < g → AreOpen g held quarters halves
     → open_at halves corner ≡ false

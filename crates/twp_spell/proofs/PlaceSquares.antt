@@ -1,20 +1,17 @@
 -- Squares of four places: which of their quarters are full.
 use Rattle.std.proofs.Common.{◌≡◌, ◌↔◌, ℕ, zero, suc, ◌+◌, ◌-◌, ◌/◌, ◌^◌, nat_le, nat_lt, Bool, true, List}
-use Rattle.std.proofs.Common.{◌∷◌, length, IsTrue, refl, sym, ap, ◌∙◌, arith, ◌%◌, ◌≤◌, ◌<◌, ◌&&◌, Option}
-use Rattle.std.proofs.Common.{is_none, false, Some, None, IsSome}
+use Rattle.std.proofs.Common.{◌∷◌, length, IsTrue, refl, sym, ap, ◌∙◌, arith}
 use Rattle.std.proofs.Math.Nat.{pow-succ'}
 use Rattle.std.proofs.lemmas.Bool.{and_parts}
 use Rattle.std.proofs.lemmas.Bool.Decides.{nat_tests}
 use Rattle.twp_grid.specs.declared.block.Corner.{Corner}
 use Rattle.twp_grid.specs.declared.block.Corner.TheVariants.{NE, NW, SW, SE}
 use Rattle.twp_grid.specs.Blocks.{quarter_of}
-use Rattle.twp_grid.specs.Places.{PLACE_DIGITS, places_to_position, position_along}
-use Rattle.twp_grid.specs.Lands.{Lotting, HoldsLotPlace, IsOfLots, off_lots}
 use Rattle.twp_grid.specs.Spans.{Interval, in_span, Rectangle}
 use Rattle.twp_grid.proofs.CutFacts.{sides_as_asked}
 use Rattle.twp_grammar.specs.ItemPlaces.{cuts_of}
 use Rattle.twp_spell.specs.declared.full_quarters.FullQuarters.{FullQuarters}
-use Rattle.twp_spell.specs.WrittenParts.{Part, IsInPart, IsFull}
+use Rattle.twp_spell.specs.WrittenParts.{Part, IsFull}
 use Rattle.twp_spell.specs.WrittenParts.Part.{square}
 use Rattle.twp_spell.specs.steps.Spelling.{FINE_SIDE, IsBlockOf, AreFull, all_of}
 use Rattle.twp_spell.proofs.SquareFacts.{quarter_steps, columns_long, rows_long}
@@ -211,47 +208,3 @@ fine_full g held quarters full ne nw sw se level are is_ne is_nw is_sw is_se = e
     each NW = of_all NW full.nw nw is_nw are.1.0
     each SW = of_all SW full.sw sw is_sw are.1.1.0
     each SE = of_all SE full.se se is_se are.1.1.1
-
--- the places along a side of a position
-abbrev POSITION : ℕ
-POSITION = places_to_position PLACE_DIGITS
-
--- the places of a fine square lie in one position
-along_position : (start place : ℕ) → start % FINE_SIDE ≡ 0 → start ≤ place → place < start + FINE_SIDE
-    → position_along PLACE_DIGITS place ≡ start / POSITION
-along_position start place aligned least most = omega arith
-
-off_free : (held : Bool) (lot : Option ℕ) → ¬ IsSome lot → (held && is_none lot) ≡ held
-off_free true None none = refl
-off_free true (Some lot) none = absurd (none refl)
-off_free false lot none = refl
-
--- in a fine square that contains no place of a lot, the land off the lots is all of the land
-pub fine_free : (plan : Lotting) (section column row : ℕ) (held : ℕ → ℕ → Bool) (block : Rectangle)
-    → block.columns.len ≡ FINE_SIDE → block.rows.len ≡ FINE_SIDE → column ≡ block.columns.start
-    → row ≡ block.rows.start → ¬ HoldsLotPlace plan section block
-    → (place place' : ℕ) → column ≤ place → place < column + FINE_SIDE → row ≤ place'
-    → place' < row + FINE_SIDE
-    → held place place' ≡ off_lots plan section held place place'
-fine_free plan section column row held block wide high column_is row_is none place place' least most least'
-    most' =
-    let across : in_span block.columns place ≡ true = grind (arith, nat_tests) in
-    let upward : in_span block.rows place' ≡ true = grind (arith, nat_tests) in
-    sym (off_free (held place place') (plan.lot_of section place place') (λ some.
-    none (record { column = place; row = place'; inside = rw (across, upward) refl; of_lot = some })))
-
--- a block that is made up of lots contains no land off the lots
-some_not_none : (lot : Option ℕ) (held : Bool) → IsSome lot → (held && is_none lot) ≡ true → ⊥
-some_not_none None held some is = cc some
-some_not_none (Some n) true some is = cc is
-some_not_none (Some n) false some is = cc is
-
-pub none_off_lots : (plan : Lotting) (section : ℕ) (held : ℕ → ℕ → Bool) (quarters : List Corner)
-    (block : Rectangle)
-    → IsBlockOf plan.digits (square quarters) block → IsOfLots plan section block
-    → (place place' : ℕ) → IsInPart plan.digits (square quarters) place place'
-    → ¬ (off_lots plan section held place place' ≡ true)
-none_off_lots plan section held quarters block of_square of_lots place place' inside is =
-    some_not_none (plan.lot_of section place place') (held place place')
-    (of_lots place place'
-    (block_places_of plan.digits (square quarters) block place place' of_square inside)) is

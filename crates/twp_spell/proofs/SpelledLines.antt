@@ -4,7 +4,6 @@ use Rattle.std.proofs.Common.{ap}
 use Rattle.std.proofs.Common.{subst, ◌∙◌, inl, inr, arith}
 use Rattle.std.specs.List.{flat_map}
 use Rattle.twp_grid.specs.Townships.{Designation}
-use Rattle.twp_grid.specs.Lands.{HasWholeLots}
 use Rattle.twp_grammar.specs.declared.item.Step.TheVariants.{Half, Quarter}
 use Rattle.twp_grammar.specs.ItemPlaces.{ItemOfSection}
 use Rattle.twp_grammar.specs.ItemPlaces.{item_of}
@@ -16,7 +15,6 @@ use Rattle.twp_spell.specs.CanonicalText.{part_text, with_commas, lots_entry}
 use Rattle.twp_spell.specs.CanonicalText.{IsSectionList, all, by_parts, IsSectionText, IsSectionOfLand}
 use Rattle.std.proofs.lemmas.Bool.{and_parts}
 use Rattle.twp_grid.proofs.PlaceTests.{test_of_place}
-use Rattle.twp_grid.specs.Lands.{lot_of_place}
 use Rattle.twp_grid.specs.Lands.{Lotting, AreLots}
 use Rattle.std.specs.Prelude.{is_none}
 use Rattle.twp_grammar.proofs.Membership.{Among, among_contains}

@@ -1,17 +1,15 @@
 -- The list of a section: its lots and its written parts lie on the plat, share no place, and name
 -- the land in the section.
-use Rattle.std.proofs.Common.{◌≡◌, ◌==◌, ℕ, ◌<◌, ◌^◌, ◌&&◌, Bool, true, List, [], ◌∷◌, ◌++◌, Option, Some}
-use Rattle.std.proofs.Common.{None, IsSome, false, map, nat_le, nat_lt, refl, sym, ap, subst, ◌∙◌, inl, inr}
+use Rattle.std.proofs.Common.{◌≡◌, ◌==◌, ℕ, ◌<◌, ◌&&◌, Bool, true, List, [], ◌∷◌, ◌++◌, Option, Some}
+use Rattle.std.proofs.Common.{None, IsSome, false, map, nat_le, refl, sym, ap, subst, ◌∙◌, inl, inr}
 use Rattle.std.proofs.Common.{arith}
 use Rattle.std.specs.Prelude.{is_none}
 use Rattle.std.proofs.lemmas.Bool.{and_parts, eqb-true, eq-eqb, false≢true}
 use Rattle.std.proofs.lemmas.Bool.Decides.{nat_tests}
 use Rattle.twp_grid.specs.Winding.{IsSection}
-use Rattle.twp_grid.specs.Lots.{position_of_lot}
-use Rattle.twp_grid.specs.Places.{IsPlace, is_place, position_along}
+use Rattle.twp_grid.specs.Places.{IsPlace, is_place}
 use Rattle.twp_grid.specs.Townships.{Designation}
-use Rattle.twp_grid.specs.Lands.{lot_of_place, HasWholeLots}
-use Rattle.twp_land.proofs.LotFacts.{fills, few_lots}
+use Rattle.twp_grid.specs.Lands.{HasWholeLots}
 use Rattle.twp_grammar.specs.declared.item.Item.TheVariants.{Chain, All}
 use Rattle.twp_grammar.specs.ItemPlaces.{ItemOfSection, is_lot_from, in_chain, item_places}
 use Rattle.twp_grammar.specs.OnPlat.{LiesOnPlat, Names}

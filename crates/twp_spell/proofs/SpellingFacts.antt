@@ -1,20 +1,19 @@
 -- Texts of lots, of sections, and of land, which grow piece by piece.
-use Rattle.std.proofs.Common.{◌≡◌, ℕ, zero, suc, ◌+◌, ◌<◌, ◌≤◌, ◌⊎◌, Bool, true, false, List, [], ◌∷◌, ◌++◌}
-use Rattle.std.proofs.Common.{map, length, Option, Some, None, Result, Ok, Err, OnOk, refl, sym, ap, subst}
-use Rattle.std.proofs.Common.{◌∙◌, inl, inr, arith, codes, decimal, is_ok, if◌then◌else◌}
+use Rattle.std.proofs.Common.{◌≡◌, ℕ, ◌+◌, ◌<◌, Bool, true, false, List, [], ◌∷◌, ◌++◌}
+use Rattle.std.proofs.Common.{map, Option, Some, None, Result, Ok, Err, OnOk, refl, sym, ap, subst}
+use Rattle.std.proofs.Common.{◌∙◌, arith, codes, decimal, is_ok, if◌then◌else◌}
 use Rattle.std.specs.List.{AllZip, Contains, join_by}
-use Rattle.std.proofs.Math.ListN.{get_or, take}
-use Rattle.std.proofs.lemmas.Bool.{cases_lt, false≢true}
+use Rattle.std.proofs.lemmas.Bool.{false≢true}
 use Rattle.std.proofs.lemmas.Grind.{flat_map-append}
-use Rattle.std.proofs.lemmas.List.{append-nil, append_assoc, flat_map_more, take_all}
+use Rattle.std.proofs.lemmas.List.{append-nil, append_assoc, flat_map_more}
 use Rattle.std.proofs.lemmas.List.Folds.{flat_map-map}
 use Rattle.twp_grid.specs.Townships.{Designation}
 use Rattle.twp_grid.specs.Winding.{IsSection}
-use Rattle.twp_grid.specs.Lands.{lot_of_place, LieWithin}
+use Rattle.twp_grid.specs.Lands.{LieWithin}
 use Rattle.twp_grid.specs.Listing.{AreListed}
 use Rattle.twp_spell.specs.WrittenParts.{Part, AreWrittenParts}
 use Rattle.twp_grid.specs.Lands.{off_lots}
-use Rattle.twp_grid.specs.Lands.{Lotting, HasLot, IsNextLot}
+use Rattle.twp_grid.specs.Lands.{Lotting}
 use Rattle.twp_grid.specs.Lands.{HoldsEach}
 use Rattle.twp_spell.specs.CanonicalText.{part_text, with_commas, lots_entry, HoldsSome}
 use Rattle.twp_spell.specs.CanonicalText.{IsLotHeld, IsSectionText, heading_line, line_end, land_lines}
@@ -23,7 +22,7 @@ use Rattle.twp_spell.specs.CanonicalText.IsSectionList.{all, by_parts}
 use Rattle.twp_spell.specs.steps.Spelling.{parts_text, AreWritten}
 use Rattle.twp_spell.specs.steps.SpellingSteps.{entries_text, HasLotsText, HasSection, lines_begun, AreBegun}
 use Rattle.twp_grammar.proofs.Membership.{contains_among}
-use Rattle.twp_spell.proofs.Listings.{listed_as, listed_both, listed_none, listed_one}
+use Rattle.twp_spell.proofs.NumberLists.{below_none, below_skip, below_more, below_all}
 use Rattle.twp_spell.proofs.PartLaws.{hold_all}
 
 -- a fact that holds for every value, if a result is Ok
@@ -36,108 +35,6 @@ pub appended : {T E : Type 0} (result : Result T E) (old piece new text : List �
     → new ≡ (if is_ok result then old ++ piece else old) → piece ≡ text → OnOk result (new ≡ old ++ text)
 appended (Ok value) old piece new text is same = is ∙ ap (λ t. old ++ t) same
 appended (Err fault) old piece new text is same = tt
-
--- the numbers below a number that have a property
-abbrev pub Below : (ℕ → Type 0) → ℕ → ℕ → Type 0
-Below has number n = has n × (n < number)
-
-pub below_none : (has : ℕ → Type 0) (number : ℕ) → ((n : ℕ) → has n → number ≤ n)
-    → AreListed (Below has number) ◌<◌ []
-below_none has number least =
-    listed_none (Below has number) ◌<◌ (λ n it. let more = least n it.0 in absurd (omega (arith, it.1)))
-
-pub below_skip : (has : ℕ → Type 0) (number : ℕ) (list : List ℕ) → AreListed (Below has number) ◌<◌ list
-    → ¬ has number → AreListed (Below has (number + 1)) ◌<◌ list
-below_skip has number list are not =
-    listed_as (Below has number) (Below has (number + 1)) ◌<◌ list (λ n it. (it.0, omega (arith, it.1)))
-    (λ n it. (it.0, below n it)) are
-  where
-    below : (n : ℕ) → Below has (number + 1) n → n < number
-    below n it = elim (cases_lt n number) [
-      | inl less ↦ less
-      | inr more ↦
-          let same : n ≡ number = omega (arith, it.1) in
-          absurd (not (subst has same it.0))
-    ]
-
-pub below_more : (has : ℕ → Type 0) (number : ℕ) (list : List ℕ) → AreListed (Below has number) ◌<◌ list
-    → has number → AreListed (Below has (number + 1)) ◌<◌ (list ++ number ∷ [])
-below_more has number list are it =
-    listed_as (λ n. Below has number n ⊎ (n ≡ number)) (Below has (number + 1)) ◌<◌ (list ++ number ∷ []) to
-    from
-    (listed_both (Below has number) (λ n. n ≡ number) ◌<◌ list (number ∷ []) are
-    (listed_one (λ n. n ≡ number) ◌<◌ number refl (λ n is. is)) (λ m n lower is. omega (arith, lower.1)))
-  where
-    to : (n : ℕ) → Below has number n ⊎ (n ≡ number) → Below has (number + 1) n
-    to n (inl lower) = (lower.0, omega (arith, lower.1))
-    to n (inr same) = (subst has (sym same) it, omega arith)
-
-    from : (n : ℕ) → Below has (number + 1) n → Below has number n ⊎ (n ≡ number)
-    from n both =
-        elim (cases_lt n number) [ inl less ↦ inl (both.0, less) | inr more ↦ inr (omega (arith, both.1)) ]
-
-pub below_all : (has : ℕ → Type 0) (number : ℕ) (list : List ℕ) → AreListed (Below has number) ◌<◌ list
-    → ((n : ℕ) → has n → n < number) → AreListed has ◌<◌ list
-below_all has number list are all_below =
-    listed_as (Below has number) has ◌<◌ list (λ n it. it.0) (λ n it. (it, all_below n it)) are
-
--- no lot is between one and the next
-pub below_next : (plan : Lotting) (section : ℕ) (has : ℕ → Type 0) (last number : ℕ) (list : List ℕ)
-    → ((n : ℕ) → has n → HasLot plan section n) → IsNextLot plan section last number
-    → AreListed (Below has (last + 1)) ◌<◌ list → AreListed (Below has number) ◌<◌ list
-below_next plan section has last number list each next are =
-    listed_as (Below has (last + 1)) (Below has number) ◌<◌ list
-    (λ n it. (it.0, omega (arith, it.1, next.after))) (λ n it. (it.0, to n it)) are
-  where
-    to : (n : ℕ) → Below has number n → n < last + 1
-    to n it = elim (cases_lt last n) [
-      | inl more ↦
-          let least = next.first n (each n it.0) more in
-          absurd (omega (arith, least, it.1))
-      | inr not ↦ omega (arith, not)
-    ]
-
--- the numbers of a section's lots
-abbrev pub numbers_text : List ℕ → List ℕ
-numbers_text lots = with_commas (map decimal lots)
-
-pub numbers_begin : (old lead mid new lots : List ℕ) (d : ℕ) → 0 < length lots → mid ≡ old ++ lead
-    → new ≡ mid ++ decimal (get_or lots 0 d) → new ≡ old ++ (lead ++ numbers_text (take 1 lots))
-numbers_begin old lead mid new [] d some is is' = absurd (omega arith)
-numbers_begin old lead mid new (lot ∷ lots) d some is is' =
-    is'
-    ∙ ap (λ t. t ++ decimal lot) is
-    ∙ append_assoc old lead (decimal lot)
-    ∙ ap (λ t. old ++ (lead ++ t)) (sym (append-nil (decimal lot)))
-
--- the text before the numbers of this many lots
-pub lead_of : ℕ → List ℕ
-lead_of zero = codes ", lots "
-lead_of (suc zero) = codes ", lot "
-lead_of (suc (suc n)) = codes ", lots "
-
-pub lead_is : (count : ℕ) (lead : List ℕ) → (count ≡ 1 → lead ≡ codes ", lot ")
-    → (¬ (count ≡ 1) → lead ≡ codes ", lots ") → lead ≡ lead_of count
-unfolding lead_of
-lead_is zero lead one several = several (λ same. absurd (omega (arith, same)))
-lead_is (suc zero) lead one several = one refl
-lead_is (suc (suc n)) lead one several = several (λ same. absurd (omega (arith, same)))
-
--- the entry of the lots
-pub lots_done : (old new lots : List ℕ) → 0 < length lots
-    → new ≡ old ++ (lead_of (length lots) ++ numbers_text lots) → new ≡ old ++ entries_text (lots_entry lots)
-unfolding lead_of
-lots_done old new [] some is = absurd (omega arith)
-lots_done old new (lot ∷ []) some is = is
-lots_done old new (lot ∷ next ∷ more) some is =
-    is ∙ ap (λ t. old ++ (codes ", lots " ++ t)) (sym (append-nil (numbers_text (lot ∷ next ∷ more))))
-
-pub lots_end : (old new lots : List ℕ) (i : ℕ) → 1 ≤ i → i ≡ length lots
-    → new ≡ old ++ (lead_of (length lots) ++ numbers_text (take i lots))
-    → new ≡ old ++ entries_text (lots_entry lots)
-lots_end old new lots i first count is =
-    lots_done old new lots (omega arith)
-    (is ∙ ap (λ t. old ++ (lead_of (length lots) ++ numbers_text t)) (take_all i lots (omega arith)))
 
 -- a section that the land contains wholly
 pub all_done : (plan : Lotting) (places : ℕ → ℕ → ℕ → Bool) (section : ℕ) (old named new : List ℕ)

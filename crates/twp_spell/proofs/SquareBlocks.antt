@@ -1,6 +1,6 @@
 -- The blocks that squares and their halves fill.
-use Rattle.std.proofs.Common.{◌≡◌, ℕ, ◌-◌, ◌^◌, ◌<◌, ◌⊎◌, ◌&&◌, ◌↔◌, Bool, true, false, List, ◌∷◌, length}
-use Rattle.std.proofs.Common.{Option, Some, None, is_none, IsSome, IsTrue, not, refl, sym, ap, subst, ◌∙◌}
+use Rattle.std.proofs.Common.{◌≡◌, ℕ, ◌-◌, ◌^◌, ◌<◌, ◌⊎◌, ◌↔◌, Bool, true, List, ◌∷◌, length}
+use Rattle.std.proofs.Common.{Option, Some, None, IsTrue, sym, ap, subst, ◌∙◌}
 use Rattle.std.proofs.Common.{inl, inr, arith}
 use Rattle.std.specs.Option.{SomeIff}
 use Rattle.std.proofs.lemmas.Bool.{cases_Bool, cases_lt, false≢true}
@@ -11,13 +11,9 @@ use Rattle.twp_grid.specs.Places.{is_place}
 use Rattle.twp_grid.specs.Spans.{Rectangle, in_rectangle}
 use Rattle.twp_grid.proofs.CutFacts.{held_as_asked, sides_as_asked}
 use Rattle.twp_grid.specs.Lands.{Meets, HoldsAll}
-use Rattle.twp_grid.specs.Lands.{lot_of_place}
 use Rattle.twp_grammar.specs.ItemPlaces.{cuts_of}
-use Rattle.twp_grid.specs.Lands.{HoldsLotPlace}
 use Rattle.twp_spell.specs.WrittenParts.{Part, steps_of_part, IsInPart, IsFull}
 use Rattle.twp_spell.specs.WrittenParts.Part.{square}
-use Rattle.twp_grid.specs.Lands.{off_lots}
-use Rattle.twp_grid.specs.Lands.{Lotting}
 use Rattle.twp_spell.specs.steps.Spelling.{IsBlockOf}
 use Rattle.twp_grammar.proofs.CutPlaces.{outside, more_left, more_than_one}
 use Rattle.twp_grid.proofs.PlaceTests.{place_of_test}
@@ -51,55 +47,28 @@ in_block g part block column row of_part is = elim (cases_Bool (is_place g colum
       ∙ is))
 ]
 
--- the places off the lots
-held_off : (held : Bool) (lot : Option ℕ) → (held && is_none lot) ≡ true → (held ≡ true) × ¬ IsSome lot
-held_off true None is = (refl, λ some. false≢true some)
-held_off true (Some lot) is = cc is
-held_off false lot is = cc is
-
-off_held : (held : Bool) (lot : Option ℕ) → held ≡ true → ¬ IsSome lot → (held && is_none lot) ≡ true
-off_held true None is none = refl
-off_held true (Some lot) is none = absurd (none refl)
-off_held false lot is none = cc is
-
-pub full_block : (plan : Lotting) (section : ℕ) (held : ℕ → ℕ → Bool) (part : Part) (block : Rectangle)
-    → IsBlockOf plan.digits part block
-    → HoldsAll held block → ¬ HoldsLotPlace plan section block
-    → IsFull plan.digits (off_lots plan section held) part
-full_block plan section held part block of_part all none = record {
+-- a part is full if each place of its block is in the set
+full_block : (g : ℕ) (held : ℕ → ℕ → Bool) (part : Part) (block : Rectangle) → IsBlockOf g part block
+    → HoldsAll held block → IsFull g held part
+full_block g held part block of_part all = record {
   within = of_part.within;
-  each = λ column row there.
-      let is = block_places_of plan.digits part block column row of_part there in
-      off_held (held column row) (plan.lot_of section column row) (all column row is)
-      (λ some. none (record { column = column; row = row; inside = is; of_lot = some }));
+  each = λ column row there. all column row (block_places_of g part block column row of_part there);
 }
 
-pub block_full : (plan : Lotting) (section : ℕ) (held : ℕ → ℕ → Bool) (part : Part) (block : Rectangle)
-    → IsBlockOf plan.digits part block
-    → IsFull plan.digits (off_lots plan section held) part
-    → HoldsAll held block × ¬ HoldsLotPlace plan section block
-block_full plan section held part block of_part full = (
-  (λ column row is.
-      (held_off (held column row) (plan.lot_of section column row)
-      (full.each column row (in_block plan.digits part block column row of_part is))).0),
-  (λ place.
-      (held_off (held place.column place.row) (plan.lot_of section place.column place.row)
-      (full.each place.column place.row
-      (in_block plan.digits part block place.column place.row of_part place.inside))).1
-      place.of_lot),
-)
+block_full : (g : ℕ) (held : ℕ → ℕ → Bool) (part : Part) (block : Rectangle) → IsBlockOf g part block
+    → IsFull g held part → HoldsAll held block
+block_full g held part block of_part full column row is =
+    full.each column row (in_block g part block column row of_part is)
 
--- if the land contains no place of the block, it contains none of the part
-pub empty_block : (plan : Lotting) (section : ℕ) (held : ℕ → ℕ → Bool) (part : Part) (block : Rectangle)
-    → IsBlockOf plan.digits part block → ¬ Meets held block
-    → (column row : ℕ) → IsInPart plan.digits part column row
-    → ¬ (off_lots plan section held column row ≡ true)
-empty_block plan section held part block of_part none column row there is =
+-- if the set contains no place of the block, it contains none of the part
+pub empty_block : (g : ℕ) (held : ℕ → ℕ → Bool) (part : Part) (block : Rectangle) → IsBlockOf g part block
+    → ¬ Meets held block → (column row : ℕ) → IsInPart g part column row → ¬ (held column row ≡ true)
+empty_block g held part block of_part none column row there is =
     none (record {
       column = column;
       row = row;
-      inside = block_places_of plan.digits part block column row of_part there;
-      is_held = (held_off (held column row) (plan.lot_of section column row) is).0;
+      inside = block_places_of g part block column row of_part there;
+      is_held = is;
     })
 
 -- the block of a quarter
@@ -111,32 +80,13 @@ quarter_block g corner quarters block fits of_square = record {
   block_is = ap (λ b. quarter_of b corner) of_square.block_is;
 }
 
--- the tests in the code
-pub judged_off : (plan : Lotting) (section : ℕ) (held : ℕ → ℕ → Bool) (block : Rectangle) (full lot : Bool)
-    → (IsTrue full ↔ HoldsAll held block) → (IsTrue lot ↔ HoldsLotPlace plan section block) → full ≡ true
-    → (part : Part) → IsBlockOf plan.digits part block
-    → IsTrue (not lot) ↔ IsFull plan.digits (off_lots plan section held) part
-judged_off plan section held block full lot full_is lot_is is part of_part = (
-  (λ no_lot. full_block plan section held part block of_part (full_is.0 is) (λ place.
-      both lot (lot_is.1 place) no_lot)),
-  (λ all. by_lot lot (λ there. (block_full plan section held part block of_part all).1 (lot_is.0 there))),
-)
-  where
-    both : (b : Bool) → b ≡ true → not b ≡ true → ⊥
-    both true e f = cc f
-    both false e f = cc e
-
-    by_lot : (b : Bool) → (b ≡ true → ⊥) → not b ≡ true
-    by_lot true none = absurd (none refl)
-    by_lot false none = refl
-
-pub judged_short : (plan : Lotting) (section : ℕ) (held : ℕ → ℕ → Bool) (block : Rectangle) (full : Bool)
-    → (IsTrue full ↔ HoldsAll held block) → full ≡ false
-    → (part : Part) → IsBlockOf plan.digits part block
-    → IsTrue full ↔ IsFull plan.digits (off_lots plan section held) part
-judged_short plan section held block full full_is is part of_part = (
-  (λ all. absurd (false≢true (sym is ∙ all))),
-  (λ all. full_is.1 (block_full plan section held part block of_part all).0),
+-- the test in the code
+pub judged_full : (g : ℕ) (held : ℕ → ℕ → Bool) (block : Rectangle) (full : Bool)
+    → (IsTrue full ↔ HoldsAll held block) → (part : Part) → IsBlockOf g part block
+    → IsTrue full ↔ IsFull g held part
+judged_full g held block full full_is part of_part = (
+  (λ is. full_block g held part block of_part (full_is.0 is)),
+  (λ all. full_is.1 (block_full g held part block of_part all)),
 )
 
 -- blocks that can be divided further

@@ -18,7 +18,6 @@ use Rattle.twp_spell.specs.CanonicalText.{step_text, part_text}
 use Rattle.twp_spell.specs.steps.Spelling.{quarter_on, AreOfSquare, AreOfQuarter, IsChoice, IsOffChosen}
 use Rattle.twp_spell.specs.steps.Spelling.{quarters_text, parts_text, AreWritten, IsBlockOf}
 use Rattle.twp_grid.specs.Spans.{Rectangle, whole_block}
-use Rattle.twp_grid.specs.Lands.{lot_of_place}
 use Rattle.twp_grid.specs.Lands.{Lotting}
 use Rattle.twp_spell.proofs.SquareFacts.{square_within}
 use Rattle.twp_spell.proofs.SquarePlaces.{same_quarter}
@@ -223,17 +222,14 @@ buffer_appended result these old none buffer new empty written ok =
     })
 
 -- the section
-pub section_written : {T E : Type 0} (result : Result T E) (plan : Lotting) (section : ℕ)
-    (held : ℕ → ℕ → Bool)
-    (old new : List ℕ)
-    → OnOk result (AreWritten (AreOfSquare plan.digits (off_lots plan section held) []) old new)
-    → OnOk result (AreWritten (AreWrittenParts plan.digits (off_lots plan section held)) old new)
-section_written result plan section held old new ok =
-    on_ok result (AreWritten (AreOfSquare plan.digits (off_lots plan section held) []) old new)
-    (AreWritten (AreWrittenParts plan.digits (off_lots plan section held)) old new) ok (λ is.
-    record {
+pub section_written : {T E : Type 0} (result : Result T E) (g : ℕ) (held : ℕ → ℕ → Bool) (old new : List ℕ)
+    → OnOk result (AreWritten (AreOfSquare g held []) old new)
+    → OnOk result (AreWritten (AreWrittenParts g held) old new)
+section_written result g held old new ok =
+    on_ok result (AreWritten (AreOfSquare g held []) old new) (AreWritten (AreWrittenParts g held) old new) ok
+    (λ is. record {
       parts = is.parts;
-      are = of_section plan.digits (off_lots plan section held) is.parts is.are;
+      are = of_section g held is.parts is.are;
       text_is = is.text_is;
     })
 

@@ -1,5 +1,5 @@
 -- The canonical text of land: one text for each set of places, however it was described.
-use Rattle.std.specs.Prelude.{◌≡◌, ℕ, ◌<◌, Bool, true, List, [], ◌∷◌, ◌++◌, Some}
+use Rattle.std.specs.Prelude.{◌≡◌, ℕ, ◌<◌, Bool, true, List, [], ◌∷◌, ◌++◌}
 use Rattle.std.specs.Prelude.{map, codes, decimal}
 use Rattle.std.specs.List.{flat_map, join_by, AllZip}
 use Rattle.twp_grid.specs.Winding.{IsSection}

@@ -14,10 +14,10 @@ ghost use Rattle.twp_spell.specs.steps.Spelling.{quarter_on};
 
 use crate::full_quarters::FullQuarters;
 use crate::part_text::{first_quarter, half_at};
-use crate::written_parts::{full_quarters, is_full};
+use crate::written_parts::{full_quarters, is_full, places_off_lots};
 use std::alloc::{AllocError, Global};
 use twp_grid::{Block, Corner, Section, Side};
-use twp_land::{Lotting, PlaceSet};
+use twp_land::{Lotting, PlaceSet, Plot};
 
 /// The blocks of the parts that the land in a section off its lots is written as, in their order.
 pub fn part_blocks<L: PlaceSet, P: Lotting>(
@@ -29,62 +29,54 @@ pub fn part_blocks<L: PlaceSet, P: Lotting>(
     ensures { IfOk result (λ blocks. AreWrittenBlocks PLACE_DIGITS
         (off_lots (lotting (P.layout lots.now)) section (L.places land.now section)) blocks.items) }
 {
+    let places = places_off_lots(land, section, lots);
     let mut blocks = Vec::new(alloc);
     let whole = Block::whole();
-    if is_full(land, section, whole, lots) {
+    if is_full(&places, whole) {
         gather(whole, &mut blocks)?;
         return Ok(blocks);
     }
-    gather_square(land, section, whole, lots, &mut blocks)?;
+    gather_square(&places, whole, &mut blocks)?;
     Ok(blocks)
 }
 
 /// Appends the blocks of the written parts of a square that is not full.
 #[cycle(descent)]
-fn gather_square<L: PlaceSet, P: Lotting>(
-    land: &L,
-    section: Section,
+fn gather_square<P: Plot>(
+    places: &P,
     block: Block,
-    lots: &P,
     blocks: &mut Vec<Block>,
 ) -> Result<(), AllocError>
     requires { CanQuarter block }
     ensures { (quarters : List Corner) → IsBlockOf PLACE_DIGITS (square quarters) block
-        → ¬ IsFull PLACE_DIGITS (off_lots (lotting (P.layout lots.now)) section (L.places land.now section))
-        (square quarters)
-        → OnOk result (AreGathered PLACE_DIGITS (AreOfSquare PLACE_DIGITS
-        (off_lots (lotting (P.layout lots.now)) section (L.places land.now section)) quarters)
+        → ¬ IsFull PLACE_DIGITS (P.held places.now) (square quarters)
+        → OnOk result (AreGathered PLACE_DIGITS (AreOfSquare PLACE_DIGITS (P.held places.now) quarters)
         blocks.old.items blocks.new.items) }
 {
-    if !land.meets(section, block) {
+    if !places.meets(block) {
         return Ok(());
     }
-    let full = full_quarters(land, section, block, lots);
-    gather_quarter(land, section, block, full, Corner::NE, lots, blocks)?;
-    gather_quarter(land, section, block, full, Corner::NW, lots, blocks)?;
-    gather_quarter(land, section, block, full, Corner::SW, lots, blocks)?;
-    gather_quarter(land, section, block, full, Corner::SE, lots, blocks)
+    let full = full_quarters(places, block);
+    gather_quarter(places, block, full, Corner::NE, blocks)?;
+    gather_quarter(places, block, full, Corner::NW, blocks)?;
+    gather_quarter(places, block, full, Corner::SW, blocks)?;
+    gather_quarter(places, block, full, Corner::SE, blocks)
 }
 
 /// Appends the blocks of the written parts that begin in a quarter of a square that is not full.
 #[cycle(descent)]
-fn gather_quarter<L: PlaceSet, P: Lotting>(
-    land: &L,
-    section: Section,
+fn gather_quarter<P: Plot>(
+    places: &P,
     block: Block,
     full: FullQuarters,
     corner: Corner,
-    lots: &P,
     blocks: &mut Vec<Block>,
 ) -> Result<(), AllocError>
     requires { CanQuarter block }
     ensures { (quarters : List Corner) → IsBlockOf PLACE_DIGITS (square quarters) block
-        → ¬ IsFull PLACE_DIGITS (off_lots (lotting (P.layout lots.now)) section (L.places land.now section))
-        (square quarters)
-        → AreFull PLACE_DIGITS (off_lots (lotting (P.layout lots.now)) section (L.places land.now section))
-        quarters full
-        → OnOk result (AreGathered PLACE_DIGITS (AreOfQuarter PLACE_DIGITS
-        (off_lots (lotting (P.layout lots.now)) section (L.places land.now section)) quarters corner)
+        → ¬ IsFull PLACE_DIGITS (P.held places.now) (square quarters)
+        → AreFull PLACE_DIGITS (P.held places.now) quarters full
+        → OnOk result (AreGathered PLACE_DIGITS (AreOfQuarter PLACE_DIGITS (P.held places.now) quarters corner)
         blocks.old.items blocks.new.items) }
 {
     if let Some(side) = half_at(full.chosen_half(), corner) {
@@ -100,7 +92,7 @@ fn gather_quarter<L: PlaceSet, P: Lotting>(
     if quarter.height() == 1 {
         return Ok(());
     }
-    gather_square(land, section, quarter, lots, blocks)
+    gather_square(places, quarter, blocks)
 }
 
 /// Appends a half of a block, if this is the first of its quarters.

@@ -7,8 +7,7 @@ ghost use Rattle.twp_grammar.specs.declared.item.Step.TheVariants.{Quarter};
 use std::marker::Model;
 use twp_grid::{Corner, PLACE_DIGITS, Side};
 
-/// Which quarters of a square are full, that is, consist of places in the land that belong to no
-/// lot.
+/// Which quarters of a square are full, that is, have only places that are to be written.
 #[derive(Clone, Copy)]
 pub struct FullQuarters {
     pub ne: bool,

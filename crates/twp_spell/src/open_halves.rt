@@ -1,5 +1,6 @@
-//! The halves of a square that may have land. Most land in a section lies in one quarter of a square
-//! or in one half, so a test or two of halves take the place of tests of each quarter.
+//! The halves of a square that may have places to be written. Most land in a section lies in one
+//! quarter of a square or in one half, so a test or two of halves take the place of tests of each
+//! quarter.
 ghost use Rattle.std.specs.Prelude.{◌≡◌, ◌↔◌, ◌∷◌, ℕ, Bool, false, List, Option, IsTrue};
 ghost use Rattle.twp_grid.specs.Places.{PLACE_DIGITS};
 ghost use Rattle.twp_grid.specs.Blocks.{CanQuarter};
@@ -7,18 +8,16 @@ ghost use Rattle.twp_grid.specs.declared.block.Side.TheVariants.{N, S, E, W};
 ghost use Rattle.twp_grid.specs.declared.block.Corner.{Corner};
 ghost use Rattle.twp_spell.specs.WrittenParts.{IsFull};
 ghost use Rattle.twp_spell.specs.WrittenParts.Part.{square};
-ghost use Rattle.twp_grid.specs.Lands.{off_lots};
-ghost use Rattle.twp_grid.specs.Lands.{Layout, lotting};
 ghost use Rattle.twp_spell.specs.steps.Spelling.{IsBlockOf, AreFull};
 ghost use Rattle.twp_spell.specs.steps.OpenHalves.{open_at, IsHalfEmpty, AreOpen};
 
 use crate::blocks::half_toward;
 use crate::full_quarters::FullQuarters;
 use crate::written_parts::quarter_is_full;
-use twp_grid::{Block, Corner, Section, Side};
-use twp_land::{Lotting, PlaceSet};
+use twp_grid::{Block, Corner, Side};
+use twp_land::Plot;
 
-/// The halves of a square that may have land that belongs to no lot. The others have none.
+/// The halves of a square that may have places of a set. The others have none.
 #[derive(Clone, Copy)]
 pub struct OpenHalves {
     pub north: bool,
@@ -27,7 +26,7 @@ pub struct OpenHalves {
     pub west: bool,
 }
 
-/// Each half may have land.
+/// Each half may have places.
 const EACH: OpenHalves = OpenHalves {
     north: true,
     south: true,
@@ -36,7 +35,7 @@ const EACH: OpenHalves = OpenHalves {
 };
 
 impl OpenHalves {
-    /// Whether the quarter at a corner may have land: both halves that it lies in may.
+    /// Whether the quarter at a corner may have places: both halves that it lies in may.
     #[inline(always)]
     pub fn at(self, corner: Corner) -> bool
         ensures { result ≡ open_at self corner }
@@ -50,43 +49,33 @@ impl OpenHalves {
     }
 }
 
-/// Finds halves of a square that have no land. If both the north and the south have some, it looks
-/// no further: the quarters have to be tested one by one.
+/// Finds halves of a square that have no places of a set. If both the north and the south have some,
+/// it looks no further: the quarters have to be tested one by one.
 #[inline(always)]
-pub(crate) fn open_halves<L: PlaceSet>(land: &L, section: Section, block: Block) -> OpenHalves
+pub(crate) fn open_halves<P: Plot>(places: &P, block: Block) -> OpenHalves
     requires { CanQuarter block }
-    ensures { (layout : Layout) (quarters : List Corner) → IsBlockOf PLACE_DIGITS (square quarters) block
-        → AreOpen PLACE_DIGITS (off_lots (lotting layout) section (L.places land.now section))
-        quarters result }
+    ensures { (quarters : List Corner) → IsBlockOf PLACE_DIGITS (square quarters) block
+        → AreOpen PLACE_DIGITS (P.held places.now) quarters result }
 {
-    if !half_meets(land, section, block, Side::S) {
-        return open_across(land, section, block, true, false);
+    if !half_meets(places, block, Side::S) {
+        return open_across(places, block, true, false);
     }
-    if !half_meets(land, section, block, Side::N) {
-        return open_across(land, section, block, false, true);
+    if !half_meets(places, block, Side::N) {
+        return open_across(places, block, false, true);
     }
     EACH
 }
 
-/// The same, given which of the north and the south may have land.
+/// The same, given which of the north and the south may have places.
 #[inline(always)]
-fn open_across<L: PlaceSet>(
-    land: &L,
-    section: Section,
-    block: Block,
-    north: bool,
-    south: bool,
-) -> OpenHalves
+fn open_across<P: Plot>(places: &P, block: Block, north: bool, south: bool) -> OpenHalves
     requires { CanQuarter block }
-    ensures { (layout : Layout) (quarters : List Corner) → IsBlockOf PLACE_DIGITS (square quarters) block
-        → (north ≡ false → IsHalfEmpty PLACE_DIGITS
-        (off_lots (lotting layout) section (L.places land.now section)) quarters N)
-        → (south ≡ false → IsHalfEmpty PLACE_DIGITS
-        (off_lots (lotting layout) section (L.places land.now section)) quarters S)
-        → AreOpen PLACE_DIGITS (off_lots (lotting layout) section (L.places land.now section))
-        quarters result }
+    ensures { (quarters : List Corner) → IsBlockOf PLACE_DIGITS (square quarters) block
+        → (north ≡ false → IsHalfEmpty PLACE_DIGITS (P.held places.now) quarters N)
+        → (south ≡ false → IsHalfEmpty PLACE_DIGITS (P.held places.now) quarters S)
+        → AreOpen PLACE_DIGITS (P.held places.now) quarters result }
 {
-    if !half_meets(land, section, block, Side::W) {
+    if !half_meets(places, block, Side::W) {
         return OpenHalves {
             north,
             south,
@@ -94,7 +83,7 @@ fn open_across<L: PlaceSet>(
             west: false,
         };
     }
-    let east = half_meets(land, section, block, Side::E);
+    let east = half_meets(places, block, Side::E);
     OpenHalves {
         north,
         south,
@@ -103,61 +92,51 @@ fn open_across<L: PlaceSet>(
     }
 }
 
-/// Whether the land meets a half of a block.
+/// Whether the set meets a half of a block.
 #[inline(always)]
-fn half_meets<L: PlaceSet>(land: &L, section: Section, block: Block, side: Side) -> bool
+fn half_meets<P: Plot>(places: &P, block: Block, side: Side) -> bool
     requires { CanQuarter block }
-    ensures { (layout : Layout) (quarters : List Corner) → IsBlockOf PLACE_DIGITS (square quarters) block
-        → result ≡ false → IsHalfEmpty PLACE_DIGITS
-        (off_lots (lotting layout) section (L.places land.now section)) quarters side }
+    ensures { (quarters : List Corner) → IsBlockOf PLACE_DIGITS (square quarters) block
+        → result ≡ false → IsHalfEmpty PLACE_DIGITS (P.held places.now) quarters side }
 {
-    land.meets(section, half_toward(block, side))
+    places.meets(half_toward(block, side))
 }
 
-/// Which quarters of a square are full, given which halves may have land.
+/// Which quarters of a square are full, given which halves may have places.
 #[inline(always)]
-pub(crate) fn full_open_quarters<L: PlaceSet, P: Lotting>(
-    land: &L,
-    section: Section,
+pub(crate) fn full_open_quarters<P: Plot>(
+    places: &P,
     block: Block,
     halves: OpenHalves,
-    lots: &P,
 ) -> FullQuarters
     requires { CanQuarter block }
     ensures { (quarters : List Corner) → IsBlockOf PLACE_DIGITS (square quarters) block
-        → AreOpen PLACE_DIGITS (off_lots (lotting (P.layout lots.now)) section (L.places land.now section))
-        quarters halves
-        → AreFull PLACE_DIGITS (off_lots (lotting (P.layout lots.now)) section (L.places land.now section))
-        quarters result }
+        → AreOpen PLACE_DIGITS (P.held places.now) quarters halves
+        → AreFull PLACE_DIGITS (P.held places.now) quarters result }
 {
     FullQuarters {
-        ne: open_quarter_is_full(land, section, block, halves, Corner::NE, lots),
-        nw: open_quarter_is_full(land, section, block, halves, Corner::NW, lots),
-        sw: open_quarter_is_full(land, section, block, halves, Corner::SW, lots),
-        se: open_quarter_is_full(land, section, block, halves, Corner::SE, lots),
+        ne: open_quarter_is_full(places, block, halves, Corner::NE),
+        nw: open_quarter_is_full(places, block, halves, Corner::NW),
+        sw: open_quarter_is_full(places, block, halves, Corner::SW),
+        se: open_quarter_is_full(places, block, halves, Corner::SE),
     }
 }
 
-/// Whether a quarter of a square is full, given which halves may have land.
+/// Whether a quarter of a square is full, given which halves may have places.
 #[inline(always)]
-fn open_quarter_is_full<L: PlaceSet, P: Lotting>(
-    land: &L,
-    section: Section,
+fn open_quarter_is_full<P: Plot>(
+    places: &P,
     block: Block,
     halves: OpenHalves,
     corner: Corner,
-    lots: &P,
 ) -> bool
     requires { CanQuarter block }
     ensures { (quarters : List Corner) → IsBlockOf PLACE_DIGITS (square quarters) block
-        → AreOpen PLACE_DIGITS (off_lots (lotting (P.layout lots.now)) section (L.places land.now section))
-        quarters halves
-        → (IsTrue result ↔ IsFull PLACE_DIGITS
-        (off_lots (lotting (P.layout lots.now)) section (L.places land.now section))
-        (square (corner ∷ quarters))) }
+        → AreOpen PLACE_DIGITS (P.held places.now) quarters halves
+        → (IsTrue result ↔ IsFull PLACE_DIGITS (P.held places.now) (square (corner ∷ quarters))) }
 {
     if !halves.at(corner) {
         return false;
     }
-    quarter_is_full(land, section, block, corner, lots)
+    quarter_is_full(places, block, corner)
 }

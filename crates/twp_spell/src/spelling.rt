@@ -1,15 +1,17 @@
 //! The canonical text of land: its sections by ascending number, each with its lots and its parts.
 ghost use Rattle.std.specs.Prelude.{◌≡◌, ◌+◌, ◌++◌, ◌∷◌, ◌<◌, ◌≤◌, [], ℕ, List, OnOk, IfOk};
-ghost use Rattle.std.specs.Prelude.{codes, decimal};
+ghost use Rattle.std.specs.Prelude.{codes, decimal, None, MatchOption};
 ghost use Rattle.twp_grid.specs.Places.{PLACE_DIGITS};
 ghost use Rattle.twp_grid.specs.Listing.{AreListed};
-ghost use Rattle.twp_spell.specs.CanonicalText.{lots_entry, heading_line, line_end};
+ghost use Rattle.twp_spell.specs.CanonicalText.{heading_line, line_end};
 ghost use Rattle.twp_spell.specs.CanonicalText.{HoldsSome, IsLotHeld, IsCanonicalText};
-ghost use Rattle.twp_spell.specs.steps.SpellingSteps.{entries_text, HasLotsText, HasSection, AreBegun};
+ghost use Rattle.twp_grid.specs.Lands.{HoldsEach};
+ghost use Rattle.twp_spell.specs.steps.SpellingSteps.{HasLotsText, IsLastHeld, IsNextHeld, HasSection};
+ghost use Rattle.twp_spell.specs.steps.SpellingSteps.{AreBegun};
 ghost use Rattle.twp_grid.specs.Lands.{lotting};
 
 use crate::line_start::LineStart;
-use crate::written_parts::write_parts;
+use crate::written_parts::{places_off_lots, write_parts};
 use itoa::Buffer;
 use std::alloc::{AllocError, Global};
 use twp_grid::{Block, Section, Township};
@@ -50,7 +52,7 @@ pub fn spell_set<L: PlaceSet, P: Lotting>(
     let mut text = Vec::with_capacity(alloc, ROOM)?;
     for number in first.number()..last.number() + 1 {
         let section = Section::new(number).unwrap();
-        write_if_held(alloc, land, township, section, lots, &mut text)?;
+        write_if_held(land, township, section, lots, &mut text)?;
     }
     write_end(&mut text)?;
     Ok(text)
@@ -58,7 +60,6 @@ pub fn spell_set<L: PlaceSet, P: Lotting>(
 
 /// Appends a section after those before it, if the land contains some place of it.
 fn write_if_held<L: PlaceSet, P: Lotting>(
-    alloc: Global,
     land: &L,
     township: Township,
     section: Section,
@@ -76,7 +77,7 @@ fn write_if_held<L: PlaceSet, P: Lotting>(
         return Ok(());
     }
     write_lead(township, section, text)?;
-    write_section(alloc, land, section, lots, text)
+    write_section(land, section, lots, text)
 }
 
 /// Appends the text before a section's list: the heading's line, or the end of the previous line,
@@ -105,11 +106,9 @@ fn write_end(text: &mut Vec<u8>) -> Result<(), AllocError>
     text.extend_from_slice(b".\n")
 }
 
-/// Appends the list of a section that the land meets, after the section's number. Inlined, it would
-/// make the masks of its blocks before the first section, whether or not they are needed.
-#[inline(never)]
+/// Appends the list of a section that the land meets, after the section's number.
+#[inline(always)]
 fn write_section<L: PlaceSet, P: Lotting>(
-    alloc: Global,
     land: &L,
     section: Section,
     lots: &P,
@@ -122,8 +121,25 @@ fn write_section<L: PlaceSet, P: Lotting>(
     if lots.holds_section(land, section) {
         return write_all(text);
     }
-    write_held_lots(alloc, land, section, lots, text)?;
-    write_parts(land, section, lots, text)
+    write_lots_and_parts(land, section, lots, text)
+}
+
+/// Appends the list of a section that the land contains in part. Inlined, it would make the masks of
+/// its blocks before the first section, whether or not they are needed.
+#[inline(never)]
+fn write_lots_and_parts<L: PlaceSet, P: Lotting>(
+    land: &L,
+    section: Section,
+    lots: &P,
+    text: &mut Vec<u8>,
+) -> Result<(), AllocError>
+    ensures { (before : List ℕ) → text.old.items ≡ before ++ (codes "sec. " ++ decimal section)
+        → HoldsSome PLACE_DIGITS (L.places land.now section)
+        → ¬ HoldsEach (lotting (P.layout lots.now)) section (L.places land.now section) → OnOk result
+        (HasSection (lotting (P.layout lots.now)) (L.places land.now) section before text.new.items) }
+{
+    write_held_lots(land, section, lots, text)?;
+    write_parts(&places_off_lots(land, section, lots), text)
 }
 
 /// Appends the list of a section that the land contains wholly, after a comma.
@@ -135,7 +151,6 @@ fn write_all(text: &mut Vec<u8>) -> Result<(), AllocError>
 
 /// Appends the lots of a section that are in the land, such as `, lot 3` or `, lots 1, 2, 4`.
 fn write_held_lots<L: PlaceSet, P: Lotting>(
-    alloc: Global,
     land: &L,
     section: Section,
     lots: &P,
@@ -144,8 +159,37 @@ fn write_held_lots<L: PlaceSet, P: Lotting>(
     ensures { OnOk result (HasLotsText (lotting (P.layout lots.now)) section (L.places land.now section)
         text.old.items text.new.items) }
 {
-    let held = held_lots(alloc, land, section, lots)?;
-    write_lots(&held, text)
+    let Some(first) = next_held(land, section, lots, 0) else {
+        return Ok(());
+    };
+    let mut last = first;
+    let mut next = next_held(land, section, lots, last);
+    text.extend_from_slice(lots_lead(next))?;
+    write_number(last, text)?;
+    while let Some(number) = next {
+        text.extend_from_slice(b", ")?;
+        write_number(number, text)?;
+        last = number;
+        next = next_held(land, section, lots, last);
+    }
+    Ok(())
+}
+
+/// The next lot of a section by number that the land meets. `None` after the last one.
+#[inline(always)]
+fn next_held<L: PlaceSet, P: Lotting>(land: &L, section: Section, lots: &P, after: u8) -> Option<u8>
+    ensures { MatchOption result
+        (IsLastHeld (lotting (P.layout lots.now)) section (L.places land.now section) after)
+        (λ lot. IsNextHeld (lotting (P.layout lots.now)) section (L.places land.now section) after lot) }
+{
+    let mut last = after;
+    while let Some(number) = lots.next_lot(section, last) {
+        if lots.meets_lot(land, section, number) {
+            return Some(number);
+        }
+        last = number;
+    }
+    None
 }
 
 /// The lots of a section that the land meets, by ascending number.
@@ -160,39 +204,19 @@ pub fn held_lots<L: PlaceSet, P: Lotting>(
 {
     let mut held = Vec::new(alloc);
     let mut last = 0;
-    while let Some(number) = lots.next_lot(section, last) {
-        if lots.meets_lot(land, section, number) {
-            held.push(number)?;
-        }
+    while let Some(number) = next_held(land, section, lots, last) {
+        held.push(number)?;
         last = number;
     }
     Ok(held)
 }
 
-/// Appends lots as one entry after a comma.
-fn write_lots(lots: &[u8], text: &mut Vec<u8>) -> Result<(), AllocError>
-    ensures { OnOk result
-        (text.new.items ≡ text.old.items ++ entries_text (lots_entry lots.now)) }
+/// The text before the numbers of lots, given the second of them.
+fn lots_lead(second: Option<u8>) -> &'static [u8]
+    ensures one { second ≡ None → result.now ≡ codes ", lot " }
+    ensures several { ¬ (second ≡ None) → result.now ≡ codes ", lots " }
 {
-    if lots.is_empty() {
-        return Ok(());
-    }
-    let lead = lots_lead(lots.len());
-    text.extend_from_slice(lead)?;
-    write_number(lots[0], text)?;
-    for index in 1..lots.len() {
-        text.extend_from_slice(b", ")?;
-        write_number(lots[index], text)?;
-    }
-    Ok(())
-}
-
-/// The text before the numbers of this many lots.
-fn lots_lead(count: usize) -> &'static [u8]
-    ensures one { count ≡ 1 → result.now ≡ codes ", lot " }
-    ensures several { ¬ (count ≡ 1) → result.now ≡ codes ", lots " }
-{
-    if count == 1 {
+    if second.is_none() {
         return b", lot ";
     }
     b", lots "

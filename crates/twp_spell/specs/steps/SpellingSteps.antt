@@ -1,6 +1,6 @@
 -- How the canonical text of land is written section by section. No public contract cites this
 -- module; proofs/SpellingFacts shows that it ends with the whole text.
-use Rattle.std.specs.Prelude.{◌≡◌, ℕ, ◌<◌, Bool, List, [], ◌∷◌, ◌++◌, codes}
+use Rattle.std.specs.Prelude.{◌≡◌, ℕ, ◌<◌, ◌≤◌, Bool, List, [], ◌∷◌, ◌++◌, codes}
 use Rattle.std.specs.List.{flat_map, join_by, AllZip}
 use Rattle.twp_grid.specs.Townships.{Designation}
 use Rattle.twp_grid.specs.Lands.{Lotting}
@@ -17,6 +17,16 @@ pub record HasLotsText (plan : Lotting) (section : ℕ) (held : ℕ → ℕ → 
   pub lots : List ℕ
   pub are : AreListed (IsLotHeld plan section held) ◌<◌ lots
   pub text_is : new ≡ old ++ entries_text (lots_entry lots)
+
+-- no lot with a greater number is in the land
+abbrev pub IsLastHeld : Lotting → ℕ → (ℕ → ℕ → Bool) → ℕ → Type 0
+IsLastHeld plan section held number = (lot : ℕ) → IsLotHeld plan section held lot → lot ≤ number
+
+-- of the lots in the land with greater numbers, this is the first
+pub record IsNextHeld (plan : Lotting) (section : ℕ) (held : ℕ → ℕ → Bool) (number lot : ℕ) : Type 0 where
+  pub is : IsLotHeld plan section held lot
+  pub after : number < lot
+  pub first : (other : ℕ) → IsLotHeld plan section held other → number < other → lot ≤ other
 
 -- the section's text was appended to a text
 pub record HasSection (plan : Lotting) (places : ℕ → ℕ → ℕ → Bool) (section : ℕ) (old new : List ℕ)

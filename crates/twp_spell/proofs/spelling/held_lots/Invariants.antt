@@ -1,7 +1,7 @@
 use Rattle.std.proofs.Common.{◌<◌, ◌≤◌, ◌+◌, ◌-◌}
 use Rattle.twp_grid.specs.Lands.{IsLotHeld, LOT_NUMBER_MOST, lotting}
 use Rattle.twp_grid.specs.Listing.{AreListed}
-use Rattle.twp_spell.proofs.SpellingFacts.{Below}
+use Rattle.twp_spell.proofs.NumberLists.{Below}
 use Rattle.twp_spell.proofs.spelling.held_lots.Given as goal
 
 -- the lots so far that are in the land

@@ -1,6 +1,5 @@
 -- Section by section, the text grows, and then it ends. Empty land has no text.
-use Rattle.std.proofs.Common.{refl, arith}
-use Rattle.twp_grid.specs.Places.{PLACE_DIGITS}
+use Rattle.std.proofs.Common.{arith}
 use Rattle.twp_land.proofs.LandRanges.{nothing_within}
 use Rattle.twp_spell.proofs.SpellingFacts.{begun_from, begun_all}
 use Rattle.twp_spell.proofs.spelling.spell_set.Goals as goal

@@ -1,5 +1,4 @@
 use Rattle.std.proofs.Common.{◌≤◌}
-use Rattle.twp_grid.specs.Places.{PLACE_DIGITS}
 use Rattle.twp_spell.specs.steps.SpellingSteps.{AreBegun}
 use Rattle.twp_spell.proofs.spelling.spell_set.Given as goal
 use Rattle.twp_grid.specs.Lands.{lotting}

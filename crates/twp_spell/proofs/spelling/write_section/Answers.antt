@@ -1,12 +1,9 @@
 -- The land contains all land of the section, or the section's lots and parts are written.
 use Rattle.std.proofs.Common.{◌≡◌, ◌++◌, codes, sym, ◌∙◌}
 use Rattle.std.proofs.lemmas.Bool.{false≢true}
-use Rattle.twp_grid.specs.Places.{PLACE_DIGITS}
-use Rattle.twp_spell.specs.WrittenParts.{AreWrittenParts}
-use Rattle.twp_grid.specs.Lands.{off_lots, lotting, HoldsEach}
-use Rattle.twp_spell.specs.steps.Spelling.{AreWritten}
+use Rattle.twp_grid.specs.Lands.{lotting}
 use Rattle.twp_spell.specs.steps.SpellingSteps.{HasSection}
-use Rattle.twp_spell.proofs.SpellingFacts.{on_ok, all_done, parts_done}
+use Rattle.twp_spell.proofs.SpellingFacts.{on_ok, all_done}
 use Rattle.twp_spell.proofs.spelling.write_section.Goals as goal
 
 pub returns-then-holds_section : goal.returns-then-holds_section
@@ -21,19 +18,5 @@ returns-then-holds_section g c = λ before lead some.
 
 pub returns : goal.returns
 returns g c = λ before lead some.
-    let places = g.L.PlaceSet.places c.args.land.now in
-    let lotted = c.write_held_lots.new.text.items in
-    let new = c.write_parts.new.text.items in
-    let short : ¬ HoldsEach (lotting (g.P.Lotting.layout c.args.lots.now)) c.args.section
-    (places c.args.section) = λ each.
-    false≢true (sym c.if-holds_section.false ∙ c.holds_section.ensures.1 each) in
-    on_ok c.write_parts.result
-    (AreWritten
-    (AreWrittenParts PLACE_DIGITS
-    (off_lots (lotting (g.P.Lotting.layout c.args.lots.now)) c.args.section (places c.args.section)))
-    lotted new)
-    (HasSection (lotting (g.P.Lotting.layout c.args.lots.now)) places c.args.section before new)
-    (c.write_parts.ensures short)
-    (parts_done (lotting (g.P.Lotting.layout c.args.lots.now)) places c.args.section before
-    c.args.text.now.items lotted
-    new short some lead c.in_ok-write_held_lots.ensures)
+    c.write_lots_and_parts.ensures before lead some
+    (λ each. false≢true (sym c.if-holds_section.false ∙ c.holds_section.ensures.1 each))

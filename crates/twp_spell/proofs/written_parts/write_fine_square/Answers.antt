@@ -1,98 +1,35 @@
 -- The places of a fine square, four by four.
-use Rattle.std.proofs.Common.{◌≡◌, ◌+◌, ◌%◌, sym, ◌∙◌, arith}
 use Rattle.twp_grid.specs.Places.{PLACE_DIGITS}
-use Rattle.twp_grid.specs.Lands.{off_lots}
-use Rattle.twp_grid.specs.Lands.{lotting}
-use Rattle.twp_spell.specs.steps.Spelling.{FINE_SIDE, AreOfSquare}
-use Rattle.twp_spell.proofs.DescentLists.{of_empty}
-use Rattle.twp_spell.proofs.SquareFacts.{square_fits}
-use Rattle.twp_spell.proofs.PlaceSquares.{fine_places, fine_full, fine_level, fine_free}
-use Rattle.std.proofs.lemmas.Bool.{false≢true}
-use Rattle.twp_spell.proofs.WritingFacts.{written_none, buffer_appended}
+use Rattle.twp_spell.specs.steps.Spelling.{AreOfSquare}
+use Rattle.twp_spell.proofs.PlaceSquares.{fine_places, fine_full, fine_level}
+use Rattle.twp_spell.proofs.WritingFacts.{buffer_appended}
 use Rattle.twp_spell.proofs.written_parts.write_fine_square.Goals as goal
 
 pub returns : goal.returns
-returns g c = λ layout quarters no_lots of_square path_is short.
+returns g c = λ quarters of_square path_is short.
     let level = fine_level PLACE_DIGITS quarters c.args.block of_square c.requires.width in
-    let free =
-    fine_free (lotting layout) c.args.section c.column-column.result
-    c.row-row.result
-    (g.L.PlaceSet.places c.args.land.now c.args.section) c.args.block c.requires.width c.requires.height
-    c.column-column.ensures.value c.row-row.ensures.value
-    no_lots in
     let places =
-    fine_places PLACE_DIGITS
-    (off_lots (lotting layout) c.args.section
-    (g.L.PlaceSet.places c.args.land.now c.args.section))
-    quarters
+    fine_places PLACE_DIGITS (g.P.Plot.held c.args.places.now) quarters
     c.args.block c.column-column.result c.row-row.result
     c.held_places-ne.result c.held_places-nw.result c.held_places-sw.result c.held_places-se.result of_square
     c.requires.width c.column-column.ensures.value c.row-row.ensures.value
-    (c.held_places-ne.ensures.ne
-    ∙ free c.column-column.result ((c.row-row.result + 2) + 1) (omega arith) (omega arith) (omega arith)
-    (omega arith))
-    (c.held_places-ne.ensures.nw
-    ∙ free (c.column-column.result + 1) ((c.row-row.result + 2) + 1) (omega arith) (omega arith)
-    (omega arith) (omega arith))
-    (c.held_places-ne.ensures.sw
-    ∙ free (c.column-column.result + 1) (c.row-row.result + 2) (omega arith) (omega arith) (omega arith)
-    (omega arith))
-    (c.held_places-ne.ensures.se
-    ∙ free c.column-column.result (c.row-row.result + 2) (omega arith) (omega arith) (omega arith)
-    (omega arith))
-    (c.held_places-nw.ensures.ne
-    ∙ free (c.column-column.result + 2) ((c.row-row.result + 2) + 1) (omega arith) (omega arith)
-    (omega arith) (omega arith))
-    (c.held_places-nw.ensures.nw
-    ∙ free ((c.column-column.result + 2) + 1) ((c.row-row.result + 2) + 1) (omega arith) (omega arith)
-    (omega arith) (omega arith))
-    (c.held_places-nw.ensures.sw
-    ∙ free ((c.column-column.result + 2) + 1) (c.row-row.result + 2) (omega arith) (omega arith)
-    (omega arith) (omega arith))
-    (c.held_places-nw.ensures.se
-    ∙ free (c.column-column.result + 2) (c.row-row.result + 2) (omega arith) (omega arith) (omega arith)
-    (omega arith))
-    (c.held_places-sw.ensures.ne
-    ∙ free (c.column-column.result + 2) (c.row-row.result + 1) (omega arith) (omega arith) (omega arith)
-    (omega arith))
-    (c.held_places-sw.ensures.nw
-    ∙ free ((c.column-column.result + 2) + 1) (c.row-row.result + 1) (omega arith) (omega arith)
-    (omega arith) (omega arith))
-    (c.held_places-sw.ensures.sw
-    ∙ free ((c.column-column.result + 2) + 1) c.row-row.result (omega arith) (omega arith) (omega arith)
-    (omega arith))
-    (c.held_places-sw.ensures.se
-    ∙ free (c.column-column.result + 2) c.row-row.result (omega arith) (omega arith) (omega arith)
-    (omega arith))
-    (c.held_places-se.ensures.ne
-    ∙ free c.column-column.result (c.row-row.result + 1) (omega arith) (omega arith) (omega arith)
-    (omega arith))
-    (c.held_places-se.ensures.nw
-    ∙ free (c.column-column.result + 1) (c.row-row.result + 1) (omega arith) (omega arith) (omega arith)
-    (omega arith))
-    (c.held_places-se.ensures.sw
-    ∙ free (c.column-column.result + 1) c.row-row.result (omega arith) (omega arith) (omega arith)
-    (omega arith))
-    (c.held_places-se.ensures.se
-    ∙ free c.column-column.result c.row-row.result (omega arith) (omega arith) (omega arith) (omega arith)) in
+    c.held_places-ne.ensures.ne c.held_places-ne.ensures.nw c.held_places-ne.ensures.sw
+    c.held_places-ne.ensures.se
+    c.held_places-nw.ensures.ne c.held_places-nw.ensures.nw c.held_places-nw.ensures.sw
+    c.held_places-nw.ensures.se
+    c.held_places-sw.ensures.ne c.held_places-sw.ensures.nw c.held_places-sw.ensures.sw
+    c.held_places-sw.ensures.se
+    c.held_places-se.ensures.ne c.held_places-se.ensures.nw c.held_places-se.ensures.sw
+    c.held_places-se.ensures.se in
     let full =
-    fine_full PLACE_DIGITS
-    (off_lots (lotting layout) c.args.section
-    (g.L.PlaceSet.places c.args.land.now c.args.section))
-    quarters
+    fine_full PLACE_DIGITS (g.P.Plot.held c.args.places.now) quarters
     (record { ne = c.all.result; nw = c.all-2.result; sw = c.all-3.result; se = c.all-4.result })
     c.held_places-ne.result c.held_places-nw.result c.held_places-sw.result c.held_places-se.result level
     places c.all.ensures c.all-2.ensures c.all-3.ensures c.all-4.ensures in
     buffer_appended c.append_to.result
-    (AreOfSquare PLACE_DIGITS
-    (off_lots (lotting layout) c.args.section
-    (g.L.PlaceSet.places c.args.land.now c.args.section))
-    quarters)
+    (AreOfSquare PLACE_DIGITS (g.P.Plot.held c.args.places.now) quarters)
     c.args.text.now.items c.new-buffer.result c.push_fine_square.new.buffer c.append_to.new.text.items
     c.new-buffer.ensures
-    (c.push_fine_square.ensures
-    (off_lots (lotting layout) c.args.section
-    (g.L.PlaceSet.places c.args.land.now c.args.section))
-    quarters level
-    path_is short full places.0 places.1.0 places.1.1.0 places.1.1.1)
+    (c.push_fine_square.ensures (g.P.Plot.held c.args.places.now) quarters level path_is short full places.0
+    places.1.0 places.1.1.0 places.1.1.1)
     c.append_to.ensures

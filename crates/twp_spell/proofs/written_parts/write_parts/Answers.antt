@@ -1,37 +1,24 @@
 -- The section is the largest square.
 use Rattle.std.proofs.Common.{[], arith}
 use Rattle.twp_grid.specs.Places.{PLACE_DIGITS}
-use Rattle.twp_grid.specs.Lands.{off_lots}
-use Rattle.twp_grid.specs.Lands.{lotting}
-use Rattle.twp_spell.specs.WrittenParts.{IsFull}
-use Rattle.twp_spell.specs.WrittenParts.Part.{square}
-use Rattle.twp_spell.proofs.WritingFacts.{section_written, quarters_written, whole_held, whole_of}
+use Rattle.twp_spell.proofs.WritingFacts.{section_written, quarters_written, whole_of}
 use Rattle.twp_spell.proofs.written_parts.write_parts.Goals as goal
 
 pub returns : goal.returns
 returns g c = λ short.
-    let held =
-    off_lots (lotting (g.P.Lotting.layout c.args.lots.now)) c.args.section
-    (g.L.PlaceSet.places c.args.land.now c.args.section) in
-    let not_full : ¬ IsFull PLACE_DIGITS held (square []) = λ full.
-    short
-    (whole_held (lotting (g.P.Lotting.layout c.args.lots.now)) c.args.section
-    (g.L.PlaceSet.places c.args.land.now c.args.section) full) in
+    let held = g.P.Plot.held c.args.places.now in
     let halves =
-    c.open_halves-halves.ensures (g.P.Lotting.layout c.args.lots.now) []
-    (whole_of PLACE_DIGITS c.whole.result c.whole.ensures) in
+    c.open_halves-halves.ensures [] (whole_of PLACE_DIGITS c.whole.result c.whole.ensures) in
     let are =
     c.full_open_quarters-full.ensures [] (whole_of PLACE_DIGITS c.whole-2.result c.whole-2.ensures) halves in
-    section_written c.write_quarter_of_section-4.result (lotting (g.P.Lotting.layout c.args.lots.now))
-    c.args.section
-    (g.L.PlaceSet.places c.args.land.now c.args.section) c.args.text.now.items
+    section_written c.write_quarter_of_section-4.result PLACE_DIGITS held c.args.text.now.items
     c.write_quarter_of_section-4.new.text.items
     (quarters_written c.write_quarter_of_section-4.result PLACE_DIGITS held []
     c.args.text.now.items c.write_quarter_of_section.new.text.items
     c.write_quarter_of_section-2.new.text.items
     c.write_quarter_of_section-3.new.text.items c.write_quarter_of_section-4.new.text.items
-    (omega arith) not_full
-    (c.in_ok-write_quarter_of_section.ensures not_full halves are)
-    (c.in_ok-write_quarter_of_section-2.ensures not_full halves are)
-    (c.in_ok-write_quarter_of_section-3.ensures not_full halves are)
-    (c.write_quarter_of_section-4.ensures not_full halves are))
+    (omega arith) short
+    (c.in_ok-write_quarter_of_section.ensures short halves are)
+    (c.in_ok-write_quarter_of_section-2.ensures short halves are)
+    (c.in_ok-write_quarter_of_section-3.ensures short halves are)
+    (c.write_quarter_of_section-4.ensures short halves are))

@@ -4,8 +4,6 @@ use Rattle.std.proofs.lemmas.Bool.{false≢true}
 use Rattle.twp_grid.specs.Places.{PLACE_DIGITS}
 use Rattle.twp_grid.specs.Spans.{whole_block}
 use Rattle.twp_grammar.specs.declared.item.Step.TheVariants.{Quarter}
-use Rattle.twp_grid.specs.Lands.{off_lots}
-use Rattle.twp_grid.specs.Lands.{lotting}
 use Rattle.twp_spell.specs.CanonicalText.{step_text}
 use Rattle.twp_spell.specs.WrittenParts.Part.{square}
 use Rattle.twp_spell.specs.steps.Spelling.{IsBlockOf}
@@ -20,9 +18,7 @@ use Rattle.twp_spell.proofs.written_parts.write_quarter_of_section.Goals as goal
 
 pub returns-in-Some : goal.returns-in-Some
 returns-in-Some g c = λ short halves are.
-    let held =
-    off_lots (lotting (g.P.Lotting.layout c.args.lots.now)) c.args.section
-    (g.L.PlaceSet.places c.args.land.now c.args.section) in
+    let held = g.P.Plot.held c.args.places.now in
     let choice =
     choice_made PLACE_DIGITS held [] c.args.full c.chosen_half.result (omega arith) c.chosen_half.ensures are
     short in
@@ -35,9 +31,7 @@ returns-in-Some g c = λ short halves are.
 
 pub returns-then-at : goal.returns-then-at
 returns-then-at g c = λ short halves are.
-    let held =
-    off_lots (lotting (g.P.Lotting.layout c.args.lots.now)) c.args.section
-    (g.L.PlaceSet.places c.args.land.now c.args.section) in
+    let held = g.P.Plot.held c.args.places.now in
     let choice =
     choice_made PLACE_DIGITS held [] c.args.full c.chosen_half.result (omega arith) c.chosen_half.ensures are
     short in
@@ -50,9 +44,7 @@ returns-then-at g c = λ short halves are.
 
 pub returns-then-not-at : goal.returns-then-not-at
 returns-then-not-at g c = λ short halves are.
-    let held =
-    off_lots (lotting (g.P.Lotting.layout c.args.lots.now)) c.args.section
-    (g.L.PlaceSet.places c.args.land.now c.args.section) in
+    let held = g.P.Plot.held c.args.places.now in
     let choice =
     choice_made PLACE_DIGITS held [] c.args.full c.chosen_half.result (omega arith) c.chosen_half.ensures are
     short in
@@ -63,9 +55,7 @@ returns-then-not-at g c = λ short halves are.
 
 pub returns-then-not-meets : goal.returns-then-not-meets
 returns-then-not-meets g c = λ short halves are.
-    let held =
-    off_lots (lotting (g.P.Lotting.layout c.args.lots.now)) c.args.section
-    (g.L.PlaceSet.places c.args.land.now c.args.section) in
+    let held = g.P.Plot.held c.args.places.now in
     let choice =
     choice_made PLACE_DIGITS held [] c.args.full c.chosen_half.result (omega arith) c.chosen_half.ensures are
     short in
@@ -77,16 +67,13 @@ returns-then-not-meets g c = λ short halves are.
     none_written PLACE_DIGITS held [] c.args.corner c.args.text.now.items
     (off_choice PLACE_DIGITS held [] c.chosen_half.result c.args.corner choice c.in_default.ensures)
     (of_empty PLACE_DIGITS held (c.args.corner ∷ []) (omega arith)
-    (empty_block (lotting (g.P.Lotting.layout c.args.lots.now)) c.args.section
-    (g.L.PlaceSet.places c.args.land.now c.args.section)
+    (empty_block PLACE_DIGITS (g.P.Plot.held c.args.places.now)
     (square (c.args.corner ∷ [])) c.quarter_of_section-quarter.result of_quarter
     (λ meets. false≢true (sym c.if-not-meets.true ∙ c.meets.ensures.1 meets))))
 
 pub returns : goal.returns
 returns g c = λ short halves are.
-    let held =
-    off_lots (lotting (g.P.Lotting.layout c.args.lots.now)) c.args.section
-    (g.L.PlaceSet.places c.args.land.now c.args.section) in
+    let held = g.P.Plot.held c.args.places.now in
     let choice =
     choice_made PLACE_DIGITS held [] c.args.full c.chosen_half.result (omega arith) c.chosen_half.ensures are
     short in
