@@ -379,6 +379,19 @@ impl<'a> Pieces<'a> {
         }
     }
 
+    /// Whether a plus-minus sign is at an index, after acreage.
+    pub fn is_about(&self, index: usize) -> bool {
+        let is_acreage = match index.checked_sub(1) {
+            Some(unit) => {
+                is_acres(self.lower(unit))
+                    || (self.is(unit, b".")
+                        && matches!(self.lower_back(unit, 1), Some(word) if is_acres(word)))
+            }
+            None => false,
+        };
+        is_acreage && self.is(index, b"\xC2\xB1")
+    }
+
     /// The index after `more or less`, `m/l`, or `+/-`, if that is at an index.
     fn after_more_or_less(&self, index: usize) -> usize {
         let next = if self.is(index, b",") {
@@ -386,6 +399,12 @@ impl<'a> Pieces<'a> {
         } else {
             index
         };
+        // As the end of acreage, only a parenthesis is allowed by a rule.
+        if self.is(next, b"\xC2\xB1")
+            && (self.is(plus(next, 1), b")") || self.is(plus(next, 1), b"]"))
+        {
+            return plus(next, 1);
+        }
         let is_more = self.is(next, b"more")
             && self.is(plus(next, 1), b"or")
             && self.is(plus(next, 2), b"less");

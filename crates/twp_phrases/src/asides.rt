@@ -9,6 +9,9 @@ use twp_rules::Rule;
 /// The most lots and parts in parentheses.
 const LANDS_MOST: usize = 12;
 
+/// The most phrases among which the land of the last section is looked for.
+const PHRASES_MOST: usize = 6;
+
 /// The number of a township's last section: a number up to this in parentheses isn't acreage.
 const SECTIONS: u16 = 36;
 
@@ -47,13 +50,19 @@ impl<'a> Finder<'a> {
         } else {
             index
         };
-        let being = pieces.after_being(word);
+        let being = if is_in_parentheses {
+            pieces.after_known_as(word)
+        } else {
+            pieces.after_being(word)
+        };
         if being == word || !self.names_land {
             return None;
         }
         let first = pieces.after_all_of(being);
-        let mut end = first;
-        let mut has_more = true;
+        self.draft.leave_out_each(being, first, Rule::Word);
+        let is_all = matches!(self.draft.pieces.kind(first), Kind::All);
+        let mut end = plus(first, usize::from(is_all));
+        let mut has_more = !is_all;
         for _ in 0..self.draft.pieces.len() {
             if !has_more {
                 break;
@@ -62,8 +71,7 @@ impl<'a> Finder<'a> {
             has_more = self.is_before_more_land(land);
             end = plus(land, usize::from(has_more));
         }
-        let said = end;
-        end = self.after_of_said_section(end);
+        end = self.without_said_section(end);
         let is_closed = self.draft.pieces.is(end, b")");
         if is_closed != is_in_parentheses || !(is_closed || self.is_last_of_item(end)) {
             return None;
@@ -71,8 +79,15 @@ impl<'a> Finder<'a> {
         let last = plus(end, usize::from(is_closed));
         self.draft
             .add(PhraseKind::Nothing(LeftOut::Repeated), index, last, from);
-        self.draft.add_said(first, said, from);
+        self.draft.add_said(being, end, from);
         Some(last)
+    }
+
+    /// Leaves out `of said Section`, if that is at an index, and returns the index after it.
+    fn without_said_section(&mut self, index: usize) -> usize {
+        let end = self.after_of_said_section(index);
+        self.draft.leave_out_each(index, end, Rule::Word);
+        end
     }
 
     /// The index after `of said Section`, if that is at an index.
@@ -157,6 +172,9 @@ impl<'a> Finder<'a> {
             if let Some(end) = pieces.end_of_known_acreage(index) {
                 return Some((LeftOut::Acreage, end));
             }
+            if pieces.is_about(index) {
+                return Some((LeftOut::Label, plus(index, 1)));
+            }
         }
         if let Some(end) = pieces.end_of_first_serial(index) {
             return Some((LeftOut::Label, end));
@@ -208,6 +226,12 @@ impl<'a> Finder<'a> {
             return self.end_of_figure_after_land(index);
         }
         if let Some(end) = pieces.end_of_words_after(index) {
+            return Some(end);
+        }
+        if let Some(end) = pieces.end_of_time(index) {
+            return Some(end);
+        }
+        if let Some(end) = pieces.end_of_both(index) {
             return Some(end);
         }
         if let Some(end) = pieces.end_of_tax_parcel(index) {
@@ -337,21 +361,24 @@ impl<'a> Finder<'a> {
     /// The parentheses at an index with the land before them again.
     fn repeated(&mut self, index: usize) -> Option<usize> {
         let from = self.draft.checkpoint();
-        let being = self.draft.pieces.after_being(plus(index, 1));
+        let being = self.draft.pieces.after_known_as(plus(index, 1));
         let first = self.draft.pieces.after_all_of(being);
         let before = self.draft.last_kind()?;
+        self.draft.leave_out_each(being, first, Rule::Word);
         let land = if matches!(self.draft.pieces.kind(first), Kind::All) {
             plus(first, 1)
         } else {
             self.lands_in_pieces(first)?
         };
+        let land = self.without_said_section(land);
         let acreage = if self.draft.pieces.is(land, b",") {
             self.draft.pieces.end_of_acreage(plus(land, 1))
         } else {
             None
         };
         let close = acreage.unwrap_or(land);
-        let is_land = matches!(before, PhraseKind::Part | PhraseKind::Lots);
+        let is_land = matches!(before, PhraseKind::Part | PhraseKind::Lots)
+            || self.follows_land_of_section();
         let mark: &'static [u8] = if self.draft.pieces.is(index, b"[") {
             b"]"
         } else {
@@ -361,12 +388,31 @@ impl<'a> Finder<'a> {
             return None;
         }
         let end = plus(close, 1);
-        self.draft.add_said(first, land, from);
+        self.draft.add_said(being, land, from);
         self.draft.shrink_changes(from);
         Some(
             self.draft
                 .add(PhraseKind::Nothing(LeftOut::Repeated), index, end, from),
         )
+    }
+
+    /// Whether the last phrases are land and its section after it, also with its township, as in
+    /// `Lots 1, 2, E2NW Sec 30 (NW4)`.
+    fn follows_land_of_section(&self) -> bool {
+        let mut has_section = false;
+        for count in 1..PHRASES_MOST {
+            let place = self.draft.phrases.len().checked_sub(count);
+            let Some(placed) = place.and_then(|index| self.draft.phrases.get(index)) else {
+                return false;
+            };
+            match placed.phrase.kind {
+                PhraseKind::Nothing(_) | PhraseKind::Heading => {}
+                PhraseKind::Sections if !has_section => has_section = true,
+                PhraseKind::Part | PhraseKind::Lots => return has_section,
+                _ => return false,
+            }
+        }
+        false
     }
 
     /// Where the lots and parts at an index end, which commas, `and`, or white space divide, as in
