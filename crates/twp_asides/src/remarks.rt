@@ -296,7 +296,11 @@ fn ends_remark(pieces: &Pieces<'_>, index: usize, position: Position) -> bool {
 /// Whether an undivided interest is at an index, which ends before land, as in
 /// `the heirs of Ole Berg own an undivided 1/4 of the minerals under the S/2`.
 fn is_before_undivided(pieces: &Pieces<'_>, index: usize) -> bool {
-    if !pieces.is(index, b"an") || !pieces.is(plus(index, 1), b"undivided") {
+    let is_added = matches!(pieces.kind_before(index), Some(Kind::And))
+        || pieces.follows(index, b"&")
+        || pieces.follows(index, b"plus")
+        || pieces.follows(index, b"with");
+    if is_added || !pieces.is(index, b"an") || !pieces.is(plus(index, 1), b"undivided") {
         return false;
     }
     match pieces.end_of_interest(index) {

@@ -2,15 +2,12 @@
 
 use crate::finder::Finder;
 use twp_asides::{end_of_trailer, plus};
-use twp_draft::{LeftOut, PhraseKind};
+use twp_draft::{Checkpoint, LeftOut, PhraseKind};
 use twp_grammar::Kind;
 use twp_rules::Rule;
 
 /// The most lots and parts in parentheses.
 const LANDS_MOST: usize = 12;
-
-/// The most phrases among which the land of the last section is looked for.
-const PHRASES_MOST: usize = 6;
 
 /// The number of a township's last section: a number up to this in parentheses isn't acreage.
 const SECTIONS: u16 = 36;
@@ -252,6 +249,16 @@ impl<'a> Finder<'a> {
         if let Some(end) = pieces.end_of_years(index) {
             return Some(end);
         }
+        // After a section or lots, its first number may be that of another one.
+        let is_after_list = matches!(
+            self.draft.last_kind(),
+            Some(PhraseKind::Sections | PhraseKind::Lots)
+        );
+        if !is_after_list {
+            if let Some(end) = pieces.end_of_royalty(index) {
+                return Some(end);
+            }
+        }
         pieces.end_of_decimal_interest(index)
     }
 
@@ -378,7 +385,7 @@ impl<'a> Finder<'a> {
         };
         let close = acreage.unwrap_or(land);
         let is_land = matches!(before, PhraseKind::Part | PhraseKind::Lots)
-            || self.follows_land_of_section();
+            || self.says_land_before_section(first, land, from);
         let mark: &'static [u8] = if self.draft.pieces.is(index, b"[") {
             b"]"
         } else {
@@ -396,23 +403,45 @@ impl<'a> Finder<'a> {
         )
     }
 
-    /// Whether the last phrases are land and its section after it, also with its township, as in
-    /// `Lots 1, 2, E2NW Sec 30 (NW4)`.
-    fn follows_land_of_section(&self) -> bool {
+    /// Whether pieces in parentheses, with the changes after a checkpoint, may say again the land before its
+    /// section, as in `Lots 1, 2, E2NW Sec 30 (NW4)`: not only the last part of it.
+    fn says_land_before_section(&self, first: usize, end: usize, from: Checkpoint) -> bool {
+        let Some(last) = self.land_before_section() else {
+            return false;
+        };
+        let Some(land) = self.draft.phrases.get(last) else {
+            return false;
+        };
+        let said = self.draft.phrase(PhraseKind::Part, first, end, from);
+        let mut has_more = false;
+        for index in 0..last {
+            has_more = has_more || self.is_land(index);
+        }
+        !(has_more && self.draft.have_same_steps(land.phrase, said))
+    }
+
+    /// The index of the last land before its section, if that is the only one, and no land is after it.
+    fn land_before_section(&self) -> Option<usize> {
+        let mut land: Option<usize> = None;
         let mut has_section = false;
-        for count in 1..PHRASES_MOST {
-            let place = self.draft.phrases.len().checked_sub(count);
-            let Some(placed) = place.and_then(|index| self.draft.phrases.get(index)) else {
-                return false;
-            };
-            match placed.phrase.kind {
+        for index in 0..self.draft.phrases.len() {
+            let kind = self.draft.phrases.get(index)?.phrase.kind;
+            match kind {
                 PhraseKind::Nothing(_) | PhraseKind::Heading => {}
-                PhraseKind::Sections if !has_section => has_section = true,
-                PhraseKind::Part | PhraseKind::Lots => return has_section,
-                _ => return false,
+                PhraseKind::Sections if land.is_some() && !has_section => has_section = true,
+                PhraseKind::Part | PhraseKind::Lots if !has_section => land = Some(index),
+                _ => return None,
             }
         }
-        false
+        if has_section { land } else { None }
+    }
+
+    /// Whether the phrase at an index is an aliquot part, or lots.
+    fn is_land(&self, index: usize) -> bool {
+        match self.draft.phrases.get(index) {
+            Some(placed) => matches!(placed.phrase.kind, PhraseKind::Part | PhraseKind::Lots),
+            None => false,
+        }
     }
 
     /// Where the lots and parts at an index end, which commas, `and`, or white space divide, as in
