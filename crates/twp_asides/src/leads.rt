@@ -5,8 +5,8 @@ use crate::notes::is_of_company_name;
 use crate::pieces::{Pieces, plus};
 use twp_grammar::Kind;
 use twp_words::{
-    are_corners, is_acres, is_boundary, is_company, is_doubtful_title, is_feature, is_instrument,
-    is_of_lead, is_same, is_site, limits_land, names_parcel, points_into,
+    are_corners, is_acres, is_boundary, is_doubtful_title, is_feature, is_instrument, is_of_lead,
+    is_same, is_site, limits_land, names_parcel, points_into,
 };
 
 /// The most pieces of what is said before land without a mark at its end.
@@ -81,7 +81,6 @@ pub(crate) fn ends_record(pieces: &Pieces<'_>, index: usize) -> bool {
         let word = pieces.lower(place);
         has_instrument = has_instrument
             || is_instrument(word)
-            || (count == 1 && is_company(word) && !is_same(word, b"trust"))
             || (is_place && (is_of_lead(word) || is_known_at(pieces, place)));
         if begins_lead(pieces, place) {
             return has_instrument;

@@ -129,7 +129,21 @@ impl<'a> Pieces<'a> {
             [b'a' | b'b' | b'c' | b'd' | b'f' | b'g' | b'h' | b'j' | b'k' | b'm' | b'p' | b'q']
         );
         matches!(self.kind(index), Kind::Other)
-            && (is_initial || is_person(word) || is_of_person(word) || is_company(word))
+            && (is_initial
+                || is_person(word)
+                || is_of_person(word)
+                || is_company(word)
+                || self.is_short_trust(index))
+    }
+
+    /// Whether the letters for a trust are at an index, as in `Evans Family Tr`: no number is after them, as after
+    /// those for a tract.
+    fn is_short_trust(&self, index: usize) -> bool {
+        self.is(index, b"tr")
+            && self.number(plus(index, 1)).is_none()
+            && (self.follows(index, b"family")
+                || self.follows(index, b"living")
+                || self.follows(index, b"revocable"))
     }
 
     /// Whether a mark or a word that joins names is at an index, and another name after it.
