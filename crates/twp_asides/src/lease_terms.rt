@@ -26,8 +26,8 @@ impl<'a> Pieces<'a> {
         }
     }
 
-    /// Where a royalty ends that is at an index, after a mark or with its column, as `3/16`, or `1/8 roy`: at a
-    /// mark, or with its column. No aliquot part has such a fraction.
+    /// Where a royalty ends that is at an index, after a mark or with its column, as `3/16`, or
+    /// `1/8 roy`: at a mark, or with its column. No aliquot part has such a fraction.
     pub fn end_of_royalty(&self, index: usize) -> Option<usize> {
         let slash = plus(index, 1);
         let whole = plus(index, 2);

@@ -197,7 +197,8 @@ impl<'a> Pieces<'a> {
         None
     }
 
-    /// Where letters for a base line and a meridian end, with an ampersand between them, as `SLB&M`.
+    /// Where letters for a base line and a meridian end, with an ampersand between them, as
+    /// `SLB&M`.
     fn end_of_base_and_meridian(&self, index: usize) -> Option<usize> {
         let mark = plus(index, 1);
         let letter = plus(index, 2);

@@ -64,9 +64,9 @@ impl<'a> Pieces<'a> {
             && (self.is_north_south(side) || self.is_east_west(side))
     }
 
-    /// Whether a township and range are at an index with white space between their numbers and their sides,
-    /// and no words for them, as `2 N 3 W` or `2 north, 3 west`: not after a side or a word for a section or
-    /// lots, nor before another number or a fraction.
+    /// Whether a township and range are at an index with white space between their numbers and
+    /// their sides, and no words for them, as `2 N 3 W` or `2 north, 3 west`: not after a side or a
+    /// word for a section or lots, nor before another number or a fraction.
     pub fn begins_spaced_tiers(&self, index: usize) -> bool {
         let side = plus(index, 1);
         if self.is_joined(side) || !self.is_north_south(side) || !self.is_tier_number(index) {
@@ -88,8 +88,8 @@ impl<'a> Pieces<'a> {
         self.number(index).unwrap_or(0) > 0 && self.size(index) <= 2
     }
 
-    /// Whether the piece before an index is a side, which a digit after it makes a half, or the word for a
-    /// section, a lot, a township, or a range.
+    /// Whether the piece before an index is a side, which a digit after it makes a half, or the
+    /// word for a section, a lot, a township, or a range.
     fn is_after_side_or_word(&self, index: usize) -> bool {
         let is_word = matches!(
             self.kind_before(index),

@@ -1,5 +1,5 @@
-//! Names of persons before land and after it: `SMITH JOHN NWSE SEC 9`, `- Jensen`, `(Nelson & Hansen)`; and
-//! times after it: `by Friday`, `last month`.
+//! Names of persons before land and after it: `SMITH JOHN NWSE SEC 9`, `- Jensen`,
+//! `(Nelson & Hansen)`; and times after it: `by Friday`, `last month`.
 
 use crate::leads::is_sure_part;
 use crate::notes::is_before_section_and_tier;
@@ -27,8 +27,8 @@ impl<'a> Pieces<'a> {
         }
     }
 
-    /// The same before land without a mark between them: two words or more, which begin a cell, or follow a
-    /// mark that ends an item.
+    /// The same before land without a mark between them: two words or more, which begin a cell, or
+    /// follow a mark that ends an item.
     fn end_of_persons_before(&self, index: usize) -> Option<usize> {
         let begins_item = self.begins_cell(index)
             || self.follows(index, b";")
@@ -121,7 +121,8 @@ impl<'a> Pieces<'a> {
         if has_name { Some(names) } else { None }
     }
 
-    /// Whether a name of a person is at an index, an initial that is no side, or another word in such names.
+    /// Whether a name of a person is at an index, an initial that is no side, or another word in
+    /// such names.
     fn is_of_names(&self, index: usize) -> bool {
         let word = self.lower(index);
         let is_initial = matches!(
@@ -136,8 +137,8 @@ impl<'a> Pieces<'a> {
                 || self.is_short_trust(index))
     }
 
-    /// Whether the letters for a trust are at an index, as in `Evans Family Tr`: no number is after them, as after
-    /// those for a tract.
+    /// Whether the letters for a trust are at an index, as in `Evans Family Tr`: no number is after
+    /// them, as after those for a tract.
     fn is_short_trust(&self, index: usize) -> bool {
         self.is(index, b"tr")
             && self.number(plus(index, 1)).is_none()
@@ -157,8 +158,8 @@ impl<'a> Pieces<'a> {
         is_join && self.is_of_names(next)
     }
 
-    /// Where a time ends that is at an index after land, as in `by Friday`, `last month`, or `today`: at a
-    /// mark, or with its column.
+    /// Where a time ends that is at an index after land, as in `by Friday`, `last month`, or
+    /// `today`: at a mark, or with its column.
     pub fn end_of_time(&self, index: usize) -> Option<usize> {
         let word = self.lower(index);
         let next = plus(index, 1);

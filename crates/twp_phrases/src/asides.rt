@@ -403,8 +403,8 @@ impl<'a> Finder<'a> {
         )
     }
 
-    /// Whether pieces in parentheses, with the changes after a checkpoint, may say again the land before its
-    /// section, as in `Lots 1, 2, E2NW Sec 30 (NW4)`: not only the last part of it.
+    /// Whether pieces in parentheses, with the changes after a checkpoint, may say again the land
+    /// before its section, as in `Lots 1, 2, E2NW Sec 30 (NW4)`: not only the last part of it.
     fn says_land_before_section(&self, first: usize, end: usize, from: Checkpoint) -> bool {
         let Some(last) = self.land_before_section() else {
             return false;
@@ -420,7 +420,8 @@ impl<'a> Finder<'a> {
         !(has_more && self.draft.have_same_steps(land.phrase, said))
     }
 
-    /// The index of the last land before its section, if that is the only one, and no land is after it.
+    /// The index of the last land before its section, if that is the only one, and no land is after
+    /// it.
     fn land_before_section(&self) -> Option<usize> {
         let mut land: Option<usize> = None;
         let mut has_section = false;
