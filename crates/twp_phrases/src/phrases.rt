@@ -151,19 +151,26 @@ impl<'a> Finder<'a> {
         }
     }
 
-    /// Whether the phrases so far end with a section and its township, and name no land, as in
-    /// `Sec 33-2N-3W (NE/4)`.
+    /// Whether the phrases so far end with the only section and its township, and name no land, as
+    /// in `Sec 33-2N-3W (NE/4)`.
     fn is_location_without_land(&self) -> bool {
+        let mut numbers: usize = 0;
         for placed in &self.draft.phrases {
-            if !matches!(
-                placed.phrase.kind,
-                PhraseKind::Nothing(_) | PhraseKind::Sections | PhraseKind::Heading
-            ) {
-                return false;
+            match placed.phrase.kind {
+                PhraseKind::Nothing(_) | PhraseKind::Heading => {}
+                PhraseKind::Sections => {
+                    let count = placed
+                        .phrase
+                        .numbers
+                        .end
+                        .saturating_sub(placed.phrase.numbers.first);
+                    numbers = plus(numbers, count);
+                }
+                _ => return false,
             }
         }
         match self.draft.phrases.as_slice() {
-            [.., section, _] => section.phrase.kind == PhraseKind::Sections,
+            [.., section, _] => section.phrase.kind == PhraseKind::Sections && numbers == 1,
             _ => false,
         }
     }
