@@ -125,7 +125,8 @@ impl<'a> Pieces<'a> {
         if has_unit && is_net_or_gross(self.lower(next)) && self.begins_column(next) {
             return Some(next);
         }
-        if is_net_or_gross(self.lower(next)) && is_acres(self.lower(plus(next, 1))) {
+        let is_called = is_net_or_gross(self.lower(next)) || self.is_called_by_record(next);
+        if is_called && is_acres(self.lower(plus(next, 1))) {
             next = plus(next, 1);
         }
         if self.is_kind_of_acreage(next) && self.is_total(end, plus(next, 1)) {
@@ -149,6 +150,17 @@ impl<'a> Pieces<'a> {
             next = plus(next, 1);
         }
         Some(self.after_other_acreage(next))
+    }
+
+    /// Whether acreage is called by a record at an index, as in `120 deeded acres`.
+    fn is_called_by_record(&self, index: usize) -> bool {
+        self.is(index, b"deeded")
+            || self.is(index, b"assessed")
+            || self.is(index, b"taxable")
+            || self.is(index, b"legal")
+            || self.is(index, b"calc")
+            || self.is(index, b"calculated")
+            || self.is(index, b"gis")
     }
 
     /// Whether a figure at an index is a total, which ends before another index with `net` or
@@ -379,6 +391,19 @@ impl<'a> Pieces<'a> {
         }
     }
 
+    /// Whether a plus-minus sign is at an index, after acreage.
+    pub fn is_about(&self, index: usize) -> bool {
+        let is_acreage = match index.checked_sub(1) {
+            Some(unit) => {
+                is_acres(self.lower(unit))
+                    || (self.is(unit, b".")
+                        && matches!(self.lower_back(unit, 1), Some(word) if is_acres(word)))
+            }
+            None => false,
+        };
+        is_acreage && self.is(index, b"\xC2\xB1")
+    }
+
     /// The index after `more or less`, `m/l`, or `+/-`, if that is at an index.
     fn after_more_or_less(&self, index: usize) -> usize {
         let next = if self.is(index, b",") {
@@ -386,6 +411,12 @@ impl<'a> Pieces<'a> {
         } else {
             index
         };
+        // As the end of acreage, only a parenthesis is allowed by a rule.
+        if self.is(next, b"\xC2\xB1")
+            && (self.is(plus(next, 1), b")") || self.is(plus(next, 1), b"]"))
+        {
+            return plus(next, 1);
+        }
         let is_more = self.is(next, b"more")
             && self.is(plus(next, 1), b"or")
             && self.is(plus(next, 2), b"less");

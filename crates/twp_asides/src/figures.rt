@@ -62,7 +62,8 @@ impl<'a> Pieces<'a> {
             && !self.is_joined(mark)
             && !self.is_joined(plus(mark, 1));
         let is_line = self.begins_column(mark) && self.begins_line(index);
-        if (is_dashed || is_line) && self.is_letter_or_digits(place) {
+        let is_before_acreage = self.is_before_acreage_of_label(mark);
+        if (is_dashed || is_line || is_before_acreage) && self.is_letter_or_digits(place) {
             return Some(mark);
         }
         let is_item = self.is(mark, b".")
@@ -73,6 +74,19 @@ impl<'a> Pieces<'a> {
             Some(plus(mark, 1))
         } else {
             None
+        }
+    }
+
+    /// Whether acreage is at an index, after a comma or in parentheses, and a colon after it, as in
+    /// `Tract 1, 40.00 ac: SWNE`.
+    fn is_before_acreage_of_label(&self, index: usize) -> bool {
+        let is_listed = self.is(index, b",");
+        if !is_listed && !self.is(index, b"(") {
+            return false;
+        }
+        match self.end_of_acreage(plus(index, usize::from(is_listed))) {
+            Some(end) => self.is(end, b":"),
+            None => false,
         }
     }
 

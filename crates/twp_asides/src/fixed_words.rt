@@ -77,6 +77,14 @@ impl<'a> Pieces<'a> {
         }
         // Before a colon and more, they name what follows.
         let is_name = self.is(end, b":") && plus(end, 1) < self.len();
+        // A question about the land itself would be a doubt.
+        let may_be_asked = self.is(index, b"any")
+            || self.is(index, b"interested")
+            || self.is(index, b"thoughts")
+            || self.is(index, b"want");
+        if may_be_asked && self.is(end, b"?") && self.begins_column(plus(end, 1)) {
+            return Some(plus(end, 1));
+        }
         let is_before_dash = self.is_dash(end)
             && !self.is_joined(end)
             && !self.is_joined(plus(end, 1));

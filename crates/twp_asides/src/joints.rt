@@ -74,6 +74,7 @@ impl<'a> Pieces<'a> {
             || self.is(index, b"$")
             || (self.is(index, b"@") && self.is(next, b"$"))
             || (is_number && self.is_dash(index))
+            || self.is_about(index)
             || self.is_question_mark(index)
     }
 
@@ -237,13 +238,26 @@ impl<'a> Pieces<'a> {
             && (self.is(next, b"ec") || self.is(next, b"ection"))
     }
 
+    /// Where `both` at an index ends, after land and before its township, as in
+    /// `both in Township 2 North`.
+    pub fn end_of_both(&self, index: usize) -> Option<usize> {
+        let next = plus(index, 1);
+        let township = plus(next, usize::from(self.is(next, b"in")));
+        if self.is(index, b"both") && self.begins_tier(township) {
+            Some(next)
+        } else {
+            None
+        }
+    }
+
     /// The index after words for the township that was named before, as `said Township and Range`.
     pub fn after_same_township(&self, index: usize) -> Option<usize> {
-        if !self.is(index, b"said") && !self.is(index, b"same") {
+        let word = plus(index, usize::from(self.is(index, b"the")));
+        if !self.is(word, b"said") && !self.is(word, b"same") {
             return None;
         }
-        let next = plus(index, 1);
-        let after = plus(index, 2);
+        let next = plus(word, 1);
+        let after = plus(word, 2);
         if !(self.is(next, b"township") || self.is(next, b"twp")) {
             return None;
         }

@@ -228,7 +228,10 @@ impl<'a> Pieces<'a> {
             return None;
         }
         for place in plus(index, 1)..plus(index, PIECES_MOST) {
-            if self.begins_place(place) || self.begins_part(place) {
+            // `all leases` is no land.
+            let is_all_of_right = matches!(self.kind(place), Kind::All) && !self.may_be_land(place);
+            let is_land = self.begins_place(place) || self.begins_part(place);
+            if is_land && !is_all_of_right {
                 return Some(place);
             }
             if !is_of_request(self.lower(place)) {
@@ -324,6 +327,7 @@ impl<'a> Pieces<'a> {
         let side = plus(index, 1);
         self.is_township_word(index)
             || (self.number(index).is_some() && self.is_joined(side) && self.is_north_south(side))
+            || self.begins_spaced_tiers(index)
     }
 
     /// Whether the word for a township or a range is at an index.
@@ -376,6 +380,20 @@ impl<'a> Pieces<'a> {
 }
 
 impl<'a> Pieces<'a> {
+    /// The index after words in parentheses that say that the same land follows, as `being the`, or
+    /// `commonly known as`.
+    pub fn after_known_as(&self, index: usize) -> usize {
+        let known = plus(index, 1);
+        let is_known = (self.is(index, b"commonly") || self.is(index, b"generally"))
+            && self.is(known, b"known")
+            && self.is(plus(known, 1), b"as");
+        if is_known {
+            plus(known, 2)
+        } else {
+            self.after_being(index)
+        }
+    }
+
     /// The index after words that say that the same land follows, as `being the` or `a/d/a`.
     pub fn after_being(&self, index: usize) -> usize {
         if self.is(index, b"a") && self.is(plus(index, 1), b"/") && self.is(plus(index, 3), b"/") {

@@ -173,6 +173,9 @@ fn is_verb_of_lead(word: &[u8]) -> bool {
         || is_same(word, b"encumbering")
         || is_same(word, b"comprising")
         || is_same(word, b"describing")
+        || is_same(word, b"embracing")
+        || is_same(word, b"encompassing")
+        || is_same(word, b"burdening")
         || is_same(word, b"against")
 }
 

@@ -26,6 +26,30 @@ impl<'a> Pieces<'a> {
         }
     }
 
+    /// Where a royalty ends that is at an index, after a mark or with its column, as `3/16`, or
+    /// `1/8 roy`: at a mark, or with its column. No aliquot part has such a fraction.
+    pub fn end_of_royalty(&self, index: usize) -> Option<usize> {
+        let slash = plus(index, 1);
+        let whole = plus(index, 2);
+        let is_share = (self.is(index, b"1")
+            && (self.is(whole, b"5") || self.is(whole, b"6") || self.is(whole, b"8")))
+            || (self.is(index, b"3") && (self.is(whole, b"16") || self.is(whole, b"20")));
+        let is_fraction = self.is(slash, b"/") && self.is_joined(slash) && self.is_joined(whole);
+        if !is_share || !is_fraction || !self.is_after_mark_or_column(index) {
+            return None;
+        }
+        let word = plus(whole, 1);
+        let is_named = self.is(word, b"roy") || self.is(word, b"royalty") || self.is(word, b"ri");
+        let end = plus(word, usize::from(is_named));
+        if !self.is_joined(word) && (self.is_mark(end) || self.begins_column(end)) {
+            Some(end)
+        } else if self.is_mark(word) && !self.is(word, b":") && !self.is_joined(plus(word, 1)) {
+            Some(word)
+        } else {
+            None
+        }
+    }
+
     /// Where a sum of money ends that fills a column from an index on, as `$1.50`.
     pub fn end_of_money(&self, index: usize) -> Option<usize> {
         if self.is(index, b"@") && self.is(plus(index, 1), b"$") {

@@ -24,6 +24,7 @@ mod meridians;
 mod named_townships;
 mod notes;
 mod parcel_numbers;
+mod persons;
 mod pieces;
 mod quarter_columns;
 mod remark_ends;

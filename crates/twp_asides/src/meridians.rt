@@ -160,6 +160,9 @@ impl<'a> Pieces<'a> {
         for place in index..plus(index, 2 * LETTERS_MOST) {
             let bytes = self.lower(place);
             if place == index && bytes.len() > 1 {
+                if let Some(end) = self.end_of_base_and_meridian(place) {
+                    return Some(end);
+                }
                 return if bytes.len() <= LETTERS_MOST && are_meridian_letters(bytes) {
                     Some(self.after_point(plus(place, 1)))
                 } else {
@@ -192,6 +195,24 @@ impl<'a> Pieces<'a> {
             }
         }
         None
+    }
+
+    /// Where letters for a base line and a meridian end, with an ampersand between them, as
+    /// `SLB&M`.
+    fn end_of_base_and_meridian(&self, index: usize) -> Option<usize> {
+        let mark = plus(index, 1);
+        let letter = plus(index, 2);
+        let is_base = self.is(index, b"slb")
+            || self.is(index, b"mdb")
+            || self.is(index, b"usb")
+            || self.is(index, b"sbb")
+            || self.is(index, b"gsrb");
+        let is_joined = self.is_joined(mark) && self.is_joined(letter);
+        if is_base && is_joined && self.is(mark, b"&") && self.is(letter, b"m") {
+            Some(self.after_point(plus(letter, 1)))
+        } else {
+            None
+        }
     }
 
     /// Whether another letter follows at an index, after a period or an ampersand.

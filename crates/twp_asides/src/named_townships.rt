@@ -64,6 +64,68 @@ impl<'a> Pieces<'a> {
             && (self.is_north_south(side) || self.is_east_west(side))
     }
 
+    /// Whether a township and range are at an index with white space between their numbers and
+    /// their sides, and no words for them, as `2 N 3 W` or `2 north, 3 west`: not after a side or a
+    /// word for a section or lots, nor before another number or a fraction.
+    pub fn begins_spaced_tiers(&self, index: usize) -> bool {
+        let side = plus(index, 1);
+        if self.is_joined(side) || !self.is_north_south(side) || !self.is_tier_number(index) {
+            return false;
+        }
+        let mark = plus(side, 1);
+        let range = plus(mark, usize::from(self.is(mark, b",") || self.is_dash(mark)));
+        let other = plus(range, 1);
+        let end = plus(other, 1);
+        self.is_tier_number(range)
+            && !self.is_joined(other)
+            && self.is_east_west(other)
+            && !self.is_after_side_or_word(index)
+            && !self.goes_on_after_tiers(end)
+    }
+
+    /// Whether the number of a township or a range is at an index.
+    fn is_tier_number(&self, index: usize) -> bool {
+        self.number(index).unwrap_or(0) > 0 && self.size(index) <= 2
+    }
+
+    /// Whether the piece before an index is a side, which a digit after it makes a half, or the
+    /// word for a section, a lot, a township, or a range.
+    fn is_after_side_or_word(&self, index: usize) -> bool {
+        let is_word = matches!(
+            self.kind_before(index),
+            Some(
+                Kind::Sec
+                    | Kind::Lot
+                    | Kind::NorthSouth(_)
+                    | Kind::EastWest(_)
+                    | Kind::Corner(_)
+                    | Kind::T
+                    | Kind::R
+                    | Kind::And
+                    | Kind::Of
+            )
+        );
+        is_word
+            || self.follows(index, b".")
+            || self.follows(index, b"/")
+            || self.follows(index, b"&")
+            || self.follows(index, b"l")
+            || self.follows(index, b"lt")
+            || self.follows(index, b"lts")
+            || self.follows(index, b"no")
+            || matches!(index.checked_sub(1), Some(before) if self.begins_step(before))
+    }
+
+    /// Whether a number, a fraction, or a slash is at an index.
+    fn goes_on_after_tiers(&self, index: usize) -> bool {
+        matches!(
+            self.kind(index),
+            Kind::Number(_) | Kind::BadNumber | Kind::Half | Kind::Quarter
+        ) || self.is(index, b"/")
+            || self.is(index, b"half")
+            || self.is(index, b"quarter")
+    }
+
     /// Where the heading at an index ends, which names a township.
     pub(crate) fn end_of_township(&self, index: usize) -> usize {
         let count: usize = if matches!(self.kind(index), Kind::T) {

@@ -280,6 +280,7 @@ fn ends_remark(pieces: &Pieces<'_>, index: usize, position: Position) -> bool {
                 || is_before_the_land(pieces, index)
                 || is_before_section_and_tier(pieces, index)
                 || pieces.is_for_before_land(index)
+                || is_before_undivided(pieces, index)
                 || matches!(pieces.kind(index), Kind::Semicolon)
                 || pieces.begins_register(index)
                 || begins_code_of_state(pieces, index)
@@ -290,6 +291,22 @@ fn ends_remark(pieces: &Pieces<'_>, index: usize, position: Position) -> bool {
         && !is_before_file_number(pieces, plus(index, 1))
         && (matches!(pieces.kind(index), Kind::Colon) || pieces.is(index, b"="));
     is_mark || is_colon || pieces.begins_column(index)
+}
+
+/// Whether an undivided interest is at an index, which ends before land, as in
+/// `the heirs of Ole Berg own an undivided 1/4 of the minerals under the S/2`.
+fn is_before_undivided(pieces: &Pieces<'_>, index: usize) -> bool {
+    let is_added = matches!(pieces.kind_before(index), Some(Kind::And))
+        || pieces.follows(index, b"&")
+        || pieces.follows(index, b"plus")
+        || pieces.follows(index, b"with");
+    if is_added || !pieces.is(index, b"an") || !pieces.is(plus(index, 1), b"undivided") {
+        return false;
+    }
+    match pieces.end_of_interest(index) {
+        Some(end) => pieces.begins_place(end) || pieces.begins_part(end),
+        None => false,
+    }
 }
 
 /// Whether a colon at an index may end the label of other land: no word of two letters or more, no price, and

@@ -2,7 +2,7 @@
 
 use crate::finder::Finder;
 use twp_asides::{end_of_trailer, plus};
-use twp_draft::{LeftOut, PhraseKind};
+use twp_draft::{Checkpoint, LeftOut, PhraseKind};
 use twp_grammar::Kind;
 use twp_rules::Rule;
 
@@ -47,13 +47,19 @@ impl<'a> Finder<'a> {
         } else {
             index
         };
-        let being = pieces.after_being(word);
+        let being = if is_in_parentheses {
+            pieces.after_known_as(word)
+        } else {
+            pieces.after_being(word)
+        };
         if being == word || !self.names_land {
             return None;
         }
         let first = pieces.after_all_of(being);
-        let mut end = first;
-        let mut has_more = true;
+        self.draft.leave_out_each(being, first, Rule::Word);
+        let is_all = matches!(self.draft.pieces.kind(first), Kind::All);
+        let mut end = plus(first, usize::from(is_all));
+        let mut has_more = !is_all;
         for _ in 0..self.draft.pieces.len() {
             if !has_more {
                 break;
@@ -62,8 +68,7 @@ impl<'a> Finder<'a> {
             has_more = self.is_before_more_land(land);
             end = plus(land, usize::from(has_more));
         }
-        let said = end;
-        end = self.after_of_said_section(end);
+        end = self.without_said_section(end);
         let is_closed = self.draft.pieces.is(end, b")");
         if is_closed != is_in_parentheses || !(is_closed || self.is_last_of_item(end)) {
             return None;
@@ -71,8 +76,15 @@ impl<'a> Finder<'a> {
         let last = plus(end, usize::from(is_closed));
         self.draft
             .add(PhraseKind::Nothing(LeftOut::Repeated), index, last, from);
-        self.draft.add_said(first, said, from);
+        self.draft.add_said(being, end, from);
         Some(last)
+    }
+
+    /// Leaves out `of said Section`, if that is at an index, and returns the index after it.
+    fn without_said_section(&mut self, index: usize) -> usize {
+        let end = self.after_of_said_section(index);
+        self.draft.leave_out_each(index, end, Rule::Word);
+        end
     }
 
     /// The index after `of said Section`, if that is at an index.
@@ -157,6 +169,9 @@ impl<'a> Finder<'a> {
             if let Some(end) = pieces.end_of_known_acreage(index) {
                 return Some((LeftOut::Acreage, end));
             }
+            if pieces.is_about(index) {
+                return Some((LeftOut::Label, plus(index, 1)));
+            }
         }
         if let Some(end) = pieces.end_of_first_serial(index) {
             return Some((LeftOut::Label, end));
@@ -210,6 +225,12 @@ impl<'a> Finder<'a> {
         if let Some(end) = pieces.end_of_words_after(index) {
             return Some(end);
         }
+        if let Some(end) = pieces.end_of_time(index) {
+            return Some(end);
+        }
+        if let Some(end) = pieces.end_of_both(index) {
+            return Some(end);
+        }
         if let Some(end) = pieces.end_of_tax_parcel(index) {
             return Some(end);
         }
@@ -227,6 +248,16 @@ impl<'a> Finder<'a> {
         }
         if let Some(end) = pieces.end_of_years(index) {
             return Some(end);
+        }
+        // After a section or lots, its first number may be that of another one.
+        let is_after_list = matches!(
+            self.draft.last_kind(),
+            Some(PhraseKind::Sections | PhraseKind::Lots)
+        );
+        if !is_after_list {
+            if let Some(end) = pieces.end_of_royalty(index) {
+                return Some(end);
+            }
         }
         pieces.end_of_decimal_interest(index)
     }
@@ -337,21 +368,24 @@ impl<'a> Finder<'a> {
     /// The parentheses at an index with the land before them again.
     fn repeated(&mut self, index: usize) -> Option<usize> {
         let from = self.draft.checkpoint();
-        let being = self.draft.pieces.after_being(plus(index, 1));
+        let being = self.draft.pieces.after_known_as(plus(index, 1));
         let first = self.draft.pieces.after_all_of(being);
         let before = self.draft.last_kind()?;
+        self.draft.leave_out_each(being, first, Rule::Word);
         let land = if matches!(self.draft.pieces.kind(first), Kind::All) {
             plus(first, 1)
         } else {
             self.lands_in_pieces(first)?
         };
+        let land = self.without_said_section(land);
         let acreage = if self.draft.pieces.is(land, b",") {
             self.draft.pieces.end_of_acreage(plus(land, 1))
         } else {
             None
         };
         let close = acreage.unwrap_or(land);
-        let is_land = matches!(before, PhraseKind::Part | PhraseKind::Lots);
+        let is_land = matches!(before, PhraseKind::Part | PhraseKind::Lots)
+            || self.says_land_before_section(first, land, from);
         let mark: &'static [u8] = if self.draft.pieces.is(index, b"[") {
             b"]"
         } else {
@@ -361,12 +395,54 @@ impl<'a> Finder<'a> {
             return None;
         }
         let end = plus(close, 1);
-        self.draft.add_said(first, land, from);
+        self.draft.add_said(being, land, from);
         self.draft.shrink_changes(from);
         Some(
             self.draft
                 .add(PhraseKind::Nothing(LeftOut::Repeated), index, end, from),
         )
+    }
+
+    /// Whether pieces in parentheses, with the changes after a checkpoint, may say again the land
+    /// before its section, as in `Lots 1, 2, E2NW Sec 30 (NW4)`: not only the last part of it.
+    fn says_land_before_section(&self, first: usize, end: usize, from: Checkpoint) -> bool {
+        let Some(last) = self.land_before_section() else {
+            return false;
+        };
+        let Some(land) = self.draft.phrases.get(last) else {
+            return false;
+        };
+        let said = self.draft.phrase(PhraseKind::Part, first, end, from);
+        let mut has_more = false;
+        for index in 0..last {
+            has_more = has_more || self.is_land(index);
+        }
+        !(has_more && self.draft.have_same_steps(land.phrase, said))
+    }
+
+    /// The index of the last land before its section, if that is the only one, and no land is after
+    /// it.
+    fn land_before_section(&self) -> Option<usize> {
+        let mut land: Option<usize> = None;
+        let mut has_section = false;
+        for index in 0..self.draft.phrases.len() {
+            let kind = self.draft.phrases.get(index)?.phrase.kind;
+            match kind {
+                PhraseKind::Nothing(_) | PhraseKind::Heading => {}
+                PhraseKind::Sections if land.is_some() && !has_section => has_section = true,
+                PhraseKind::Part | PhraseKind::Lots if !has_section => land = Some(index),
+                _ => return None,
+            }
+        }
+        if has_section { land } else { None }
+    }
+
+    /// Whether the phrase at an index is an aliquot part, or lots.
+    fn is_land(&self, index: usize) -> bool {
+        match self.draft.phrases.get(index) {
+            Some(placed) => matches!(placed.phrase.kind, PhraseKind::Part | PhraseKind::Lots),
+            None => false,
+        }
     }
 
     /// Where the lots and parts at an index end, which commas, `and`, or white space divide, as in

@@ -26,10 +26,11 @@ impl<'a> Finder<'a> {
         if !has_word && !self.is_side(plus(next, 1)) {
             return None;
         }
+        let may_be_apart = has_word || self.draft.pieces.begins_spaced_tiers(next);
         let next = self.heading_word(next, has_word, b"T.", b"T. ");
-        let next = self.tier(next, has_word)?;
+        let next = self.tier(next, may_be_apart)?;
         let next = self.between_tiers(next, has_word)?;
-        let next = self.tier(next, has_word)?;
+        let next = self.tier(next, may_be_apart)?;
         if !self.draft.pieces.is_east_west(next) {
             return None;
         }

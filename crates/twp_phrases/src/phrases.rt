@@ -136,6 +136,9 @@ impl<'a> Finder<'a> {
                     || self.after_except(next).is_some()
                     || pieces.begins_tier(next)
             }
+            Some(PhraseKind::Heading) => {
+                pieces.begins_land(next) && self.is_location_without_land()
+            }
             Some(PhraseKind::Lots) => self.after_except(next).is_some(),
             Some(PhraseKind::Part | PhraseKind::All) => {
                 self.after_except(next).is_some()
@@ -144,6 +147,30 @@ impl<'a> Finder<'a> {
                     || matches!(pieces.kind(next), Kind::Sec)
                     || (pieces.number(next).is_some() && pieces.is_dash(plus(next, 1)))
             }
+            _ => false,
+        }
+    }
+
+    /// Whether the phrases so far end with the only section and its township, and name no land, as
+    /// in `Sec 33-2N-3W (NE/4)`.
+    fn is_location_without_land(&self) -> bool {
+        let mut numbers: usize = 0;
+        for placed in &self.draft.phrases {
+            match placed.phrase.kind {
+                PhraseKind::Nothing(_) | PhraseKind::Heading => {}
+                PhraseKind::Sections => {
+                    let count = placed
+                        .phrase
+                        .numbers
+                        .end
+                        .saturating_sub(placed.phrase.numbers.first);
+                    numbers = plus(numbers, count);
+                }
+                _ => return false,
+            }
+        }
+        match self.draft.phrases.as_slice() {
+            [.., section, _] => section.phrase.kind == PhraseKind::Sections && numbers == 1,
             _ => false,
         }
     }

@@ -60,6 +60,9 @@ impl<'a> Finder<'a> {
         if let Some(end) = self.whole_remark(index) {
             return Some(end);
         }
+        if let Some(end) = self.persons(index) {
+            return Some(end);
+        }
         if !self.names_land {
             return None;
         }
@@ -67,6 +70,29 @@ impl<'a> Finder<'a> {
         if !self.may_be_known_run(index) && !self.is_last_run(index, end) {
             return None;
         }
+        let from = self.draft.checkpoint();
+        Some(
+            self.draft
+                .add(PhraseKind::Nothing(LeftOut::Label), index, end, from),
+        )
+    }
+
+    /// The names of persons at an index. After lots, a name may be that of the plat of a town.
+    fn persons(&mut self, index: usize) -> Option<usize> {
+        if self.draft.last_kind() == Some(PhraseKind::Lots) {
+            return None;
+        }
+        let pieces = &self.draft.pieces;
+        let after = if self.names_land {
+            pieces.end_of_persons(index, Position::AfterLand)
+        } else {
+            None
+        };
+        let end = match after {
+            Some(end) => end,
+            None => pieces.end_of_persons(index, Position::BeforeLand)?,
+        };
+        self.draft.has_remark = true;
         let from = self.draft.checkpoint();
         Some(
             self.draft

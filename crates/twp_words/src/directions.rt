@@ -227,6 +227,7 @@ pub fn is_quarter(word: &[u8]) -> bool {
 pub fn is_quarter_name(word: &[u8]) -> bool {
     match word.len() {
         3 => is_among(word, 0x40000_00020000, "qtr"),
+        6 => is_among(word, 0x40000_00020000, "quater"),
         7 => is_among(word, 0x40000_00020000, "quarter"),
         _ => false,
     }

@@ -14,6 +14,7 @@ mod leads;
 mod meridians;
 mod numbers;
 mod parties;
+mod people;
 mod properties;
 mod requests;
 mod same;
@@ -47,6 +48,7 @@ pub use parties::{
     begins_exception, begins_reference, excepts_land, is_month, is_net_or_gross, is_of_record,
     is_of_time, is_owner, is_whose,
 };
+pub use people::{is_of_person, is_person, is_time_of_day, is_time_span};
 pub use properties::{begins_property, is_of_property, names_property, points_into};
 pub use requests::{begins_request, is_of_request};
 pub use same::{are_corners, is_glued, is_one_of, is_same, size_of_character};

@@ -8,11 +8,23 @@ pub fn is_meridian(word: &[u8]) -> bool {
     match word.len() {
         3 => is_among(word, 0x20_00200000, "ute"),
         4 => is_among(word, 0x100000_00002000, "mont"),
-        5 => is_among(word, 0x100130_00180044, "boise fifth first sixth third"),
-        6 => is_among(word, 0xc110_00284240, "fourth indian navajo second uintah"),
+        5 => is_among(
+            word,
+            0x100130_00380044,
+            "boise fifth first sixth third umiat",
+        ),
+        6 => is_among(
+            word,
+            0xc110_00284240,
+            "fourth indian navajo second seward uintah",
+        ),
         7 => is_among(word, 0x800002_00002008, "choctaw montana"),
         8 => is_among(word, 0x104000_00002108, "cimarron humboldt michigan"),
-        9 => is_among(word, 0x801002_00011008, "chickasaw louisiana principal"),
+        9 => is_among(
+            word,
+            0x881002_00011048,
+            "chickasaw fairbanks louisiana principal",
+        ),
         10 => is_among(word, 0x20_00800100, "huntsville willamette"),
         11 => is_among(word, 0x20_00100000, "tallahassee"),
         _ => false,
@@ -108,8 +120,8 @@ pub fn is_bare_meridian(word: &[u8]) -> bool {
 pub fn are_meridian_letters(word: &[u8]) -> bool {
     match word.len() {
         2 => is_among(word, 0x2000_00a10044, "bm fm pm um wm"),
-        3 => is_among(word, 0x2000_0028200c, "bhm crm mdm mpm sbm slm usm"),
-        4 => is_among(word, 0x2000_00086080, "gsrm mdbm nmpm sbbm slbm"),
+        3 => is_among(word, 0x2000_0029280c, "bhm crm krm mdm mpm pmm sbm slm usm"),
+        4 => is_among(word, 0x2000_00286080, "gsrm mdbm nmpm sbbm slbm usbm"),
         5 => is_among(word, 0x2000_00000080, "gsrbm"),
         _ => false,
     }

@@ -10,8 +10,8 @@ pub fn begins_request(word: &[u8]) -> bool {
         2 => is_among(word, 0x2888220_00842350, "do fw he hi is my re we"),
         3 => is_among(
             word,
-            0x20cc230_008d815a,
-            "any are can did fwd fyi hey our pls run see she who",
+            0x22cc230_028d815a,
+            "any are can did fwd fyi hey our pls run see she who you",
         ),
         4 => is_among(
             word,
@@ -19,8 +19,8 @@ pub fn begins_request(word: &[u8]) -> bool {
             "does give need pull send show they want what will",
         ),
         5 => is_among(word, 0x80810_00801008, "check could lands wants would"),
-        6 => is_among(word, 0x80020_00110000, "please thanks"),
-        7 => is_among(word, 0x80_00001000, "looking"),
+        6 => is_among(word, 0x180020_00110008, "client please thanks"),
+        7 => is_among(word, 0x80080_00001008, "clients looking"),
         8 => is_among(word, 0x10_00000002, "attached"),
         9 => is_among(word, 0x80_00000040, "following"),
         _ => false,
@@ -54,8 +54,8 @@ pub fn is_of_request(word: &[u8]) -> bool {
             word,
             0x29c19b0_00bbb0be,
             "about asked below check could cover deeds email every going lands lease month \
-             offer order owner price quick quote start still thank there these thing think \
-             title today under until using where which while would write wrote",
+             offer order owner price quick quote shows start still thank there these thing \
+             think title today under until using where which while would write wrote",
         ),
         6 => is_among(
             word,
@@ -67,8 +67,9 @@ pub fn is_of_request(word: &[u8]) -> bool {
         7 => is_among(
             word,
             0x21870b0_009db028,
-            "closing confirm current examine expires explain leasing mineral ordered \
-             prepare provide records reports request selling started tuesday working",
+            "clients closing confirm current examine expires explain leasing mineral \
+             ordered prepare provide records reports request selling started tuesday \
+             working",
         ),
         8 => is_among(
             word,

@@ -9,8 +9,8 @@ pub fn begins_terms(word: &[u8]) -> bool {
         2 => is_among(word, 0xa00_00840004, "bk ri wi"),
         3 => is_among(
             word,
-            0x119323a_00714374,
-            "blm dec doc doi exp fed fee hbp int nma nra nri pls thx usa vol",
+            0x11d323a_00714374,
+            "blm dec doc doi exp fed fee hbp int nma nra nri per pls thx usa vol",
         ),
         4 => is_among(word, 0x104a00_0000c204, "book inst npri open orri"),
         5 => is_among(word, 0x40020_00001200, "instr lease"),
