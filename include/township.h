@@ -136,11 +136,12 @@ extern "C" {
 #define TOWNSHIP_NO_MEMORY 6u     /* memory ran out, and nothing was written. Every function may return this
                                      except township_version, township_figures, township_designation_read,
                                      and those that take land and write neither text nor parts;
-                                     township_acres_many, township_answer_many, and the same by lot
-                                     tables report it in their answers */
-#define TOWNSHIP_NO_RANGE 7u      /* township_acres_many, township_answer_many, and the same by lot tables: the
-                                     two offsets of this description are not a range of the bytes given;
-                                     township_set_aside: two offsets are not a range of the phrases' bytes */
+                                     township_acres_many, township_answer_many, and the corresponding
+                                     functions for lot tables report it in their answers */
+#define TOWNSHIP_NO_RANGE 7u      /* township_acres_many, township_answer_many, and the corresponding functions
+                                     for lot tables: the two offsets of this description are not a range of
+                                     the bytes given; township_set_aside: two offsets are not a range of the
+                                     phrases' bytes */
 #define TOWNSHIP_NO_LAND 8u       /* the land you passed is not valid: it has no township, or contains part of a
                                      lot; or `own_lots` is neither 0 nor 1 */
 #define TOWNSHIP_NO_LOTS 9u       /* the township of the lot table you passed is not valid */
@@ -148,8 +149,9 @@ extern "C" {
 #define TOWNSHIP_NO_OPERATION 11u /* township_land_combine: the operation you passed is not valid */
 #define TOWNSHIP_OTHER_TOWNSHIP 12u /* two arguments are in different townships: land and land, land and a plat,
                                        or land and a lot table */
-#define TOWNSHIP_OTHER_PLAT 13u   /* two arguments are of different plats of one township: land and land, or land
-                                     and a lot table; or the call is for the standard lots, and the land has others */
+#define TOWNSHIP_OTHER_PLAT 13u   /* two arguments (two sets of land, or land and a lot table) are on different
+                                     plats of one township; or the call is for the standard lots, but the land
+                                     is on a plat with other lots */
 
 /*
  * If several verdicts apply, a call returns the first of these: TOWNSHIP_NO_PLAT, TOWNSHIP_NO_LOTS, or
@@ -295,9 +297,9 @@ typedef struct township_lots_overlap {
 #define TOWNSHIP_PLACES_ACROSS 32
 
 /*
- * The maximum number of figures in a lot table, and the number of bounds between those of the 36 sections. The numbers
- * of bytes that say where the lots of a plat lie: one for each quarter-quarter of the township, and one for each place
- * of those that are divided, of which there are at most 128.
+ * The maximum number of figures in a lot table; the number of bounds between the figures of the 36 sections; and the
+ * numbers of bytes that say where the lots of a plat lie: one for each quarter-quarter of the township, and one for each
+ * place of those that are divided (at most 128).
  */
 #define TOWNSHIP_RETURNED_MOST 1024
 #define TOWNSHIP_BOUNDS 37
@@ -752,7 +754,7 @@ township_answer township_explain_lots(const uint8_t *table, size_t table_length,
 township_answer township_explain_lacking(const township_lots *lots, uint32_t at, const uint8_t *name,
                                          size_t name_length, uint8_t *text, size_t room);
 
-/* The same for a description by a lot table, as township_lots_acres answers it: on the table's plat, with its lots.
+/* Like township_explain_description, for a description on a lot table's plat, as township_lots_acres answers it.
    Notes give no acres. */
 township_answer township_lots_explain_description(const township_lots *lots, const uint8_t *description,
                                                   size_t description_length, const uint8_t *name,
